@@ -1,1 +1,5 @@
+pub mod Counts
+pub mod HostLibrary
+pub mod MemoryLibrary
+pub mod MemorySink
 pub mod Outside

@@ -1,0 +1,6 @@
+pub mod ListLemmas
+pub mod Tableaux
+pub mod NodeLemmas
+pub mod TableLemmas
+pub mod IndexLemmas
+pub mod StartLemmas

@@ -1,0 +1,11 @@
+pub mod Lists
+pub mod Term
+pub mod TermCode
+pub mod Table
+pub mod Problem
+pub mod LiteralCode
+pub mod Index
+pub mod Tableau
+pub mod NodeCode
+pub mod View
+pub mod Codes

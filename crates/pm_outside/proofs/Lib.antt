@@ -1,0 +1,4 @@
+pub mod Fetches
+pub mod Lookups
+pub mod Puts
+pub mod Reading

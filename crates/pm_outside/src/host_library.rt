@@ -1,0 +1,144 @@
+ghost use Rattle.std.specs.Prelude.{◌≡◌, ◌≢◌, ℕ, List, ◌+◌, ◌^◌, ◌≤◌, ◌<◌, None, Err, vec_len, IfErr, Some, length, IfOk, IfSome, IsSomeAnd, IsErrOf};
+ghost use Rattle.std.specs.FinMap as map;
+ghost use Rattle.std.specs.Io.KnownBytes.{Consumes};
+ghost use Rattle.std.specs.IoError.{error_kind};
+ghost use Rattle.pm_outside.specs.Counts.{counts_after, no_counts};
+ghost use Rattle.pm_outside.specs.HostLibrary.{untold, Reads, IsReadFault};
+ghost use Rattle.pm_outside.specs.Outside.{Rose};
+
+use crate::counts::Counts;
+use crate::library::{FetchFault, Library};
+use std::alloc::Global;
+use std::fs;
+use std::io::{Error, ErrorKind, Read};
+use std::marker::Model;
+use std::rt::Files;
+
+/// The most bytes that one read asks for.
+const PIECE: usize = 8192;
+
+/// The files of the system, by their paths. It tells none of them.
+#[derive(Drop)]
+pub struct HostLibrary<'r, R> {
+    rt: &'r R,
+    counts: Counts,
+}
+
+impl<'r, R> Model for HostLibrary<'r, R> {
+    ghost use Rattle.pm_outside.specs.declared.counts.Counts.{Counts};
+
+    ghost Value = { Counts };
+
+    ghost view = { λ a. a.counts };
+}
+
+impl<'r, R: Files> HostLibrary<'r, R> {
+    /// The library of this system, with counts of 0.
+    pub fn new(rt: &'r R) -> HostLibrary<'r, R>
+        ensures { result ≡ no_counts }
+    {
+        HostLibrary {
+            rt,
+            counts: Counts::new(),
+        }
+    }
+}
+
+impl<'r, R: Files> Library for HostLibrary<'r, R> {
+    ghost faults = { λ counts. counts.faults };
+
+    ghost misses = { λ counts. counts.misses };
+
+    ghost longs = { λ counts. counts.longs };
+
+    ghost told = { λ _. untold };
+
+    /// The bytes of the file at this path. The answer is `Missing` where no file is found there,
+    /// `TooLong` where it has more bytes than the limit, `Memory` where there is no memory for them,
+    /// and `Failed` at every other fault of the system, as at a folder.
+    fn fetch(&mut self, alloc: Global, name: &str, limit: u64) -> Result<Vec<u8>, FetchFault>
+        ensures counts { self.new ≡ counts_after self.old result }
+
+        // What every library ensures.
+        ensures within { IfOk result (λ bytes. length bytes.items ≤ limit) }
+        ensures bytes { IfOk result (λ bytes. IfSome untold (λ files. map.get files name.now ≡ Some bytes.items)) }
+        ensures missing { IsErrOf result FetchFault.Missing → Rose self.old.misses self.new.misses
+            × IfSome untold (λ files. map.get files name.now ≡ None) }
+        ensures too_long { IsErrOf result FetchFault.TooLong → Rose self.old.longs self.new.longs
+            × IfSome untold (λ files. IsSomeAnd (map.get files name.now) (λ bytes. limit < length bytes)) }
+        ensures failed { IsErrOf result FetchFault.Failed → Rose self.old.faults self.new.faults }
+        ensures faults { self.old.faults ≤ self.new.faults }
+        ensures misses { self.old.misses ≤ self.new.misses }
+        ensures longs { self.old.longs ≤ self.new.longs }
+    {
+        let answer = read_file(self.rt, alloc, name, limit);
+        self.counts.count(&answer);
+        answer
+    }
+}
+
+fn read_file<R: Files>(rt: &R, alloc: Global, name: &str, limit: u64) -> Result<Vec<u8>, FetchFault>
+    ensures within { IfOk result (λ bytes. length bytes.items ≤ limit) }
+{
+    match fs::open(rt, name) {
+        Ok(mut file) => read_at_most(&mut file, alloc, limit),
+        Err(error) => Err(cause_of(&error)),
+    }
+}
+
+// Why a file wasn't opened.
+fn cause_of(error: &Error) -> FetchFault
+    ensures missing { error_kind error.now ≡ ErrorKind.NotFound → result ≡ FetchFault.Missing }
+    ensures failed { error_kind error.now ≢ ErrorKind.NotFound → result ≡ FetchFault.Failed }
+{
+    if error.kind() == ErrorKind::NotFound {
+        FetchFault::Missing
+    } else {
+        FetchFault::Failed
+    }
+}
+
+// Reads to the end, or one byte past the limit. Each turn takes at least one byte.
+fn read_at_most<F: Read>(file: &mut F, alloc: Global, limit: u64) -> Result<Vec<u8>, FetchFault>
+    ensures within { IfOk result (λ bytes. length bytes.items ≤ limit) }
+    ensures whole { IfOk result (λ bytes. IfSome (F.remaining file.old) (λ content. bytes.items ≡ content)) }
+    ensures too_long { IsErrOf result FetchFault.TooLong → IfSome (F.remaining file.old) (λ content. limit < length content) }
+    ensures stops { IsErrOf result FetchFault.TooLong
+        → (piece : List ℕ) × (length piece ≤ limit + 1) × Consumes (F.remaining file.old) (F.remaining file.new) piece }
+    ensures found { result ≢ Err FetchFault.Missing }
+{
+    let mut bytes = Vec::new(alloc);
+    while bytes.len() as u64 <= limit {
+        let left = limit - bytes.len() as u64;
+        let most = if left < PIECE as u64 {
+            left as usize + 1
+        } else {
+            PIECE
+        };
+        if read_piece(file, &mut bytes, most)? == 0 {
+            return Ok(bytes);
+        }
+    }
+    Err(FetchFault::TooLong)
+}
+
+// Reads at most so many bytes onto the end of these, and says how many.
+fn read_piece<F: Read>(file: &mut F, bytes: &mut Vec<u8>, most: usize) -> Result<usize, FetchFault>
+    requires some { 0 < most }
+    requires fits { vec_len bytes.old + most < 2 ^ 64 }
+    ensures within { IfOk result (λ count. count ≤ most) }
+    ensures reads { IfOk result (Reads (F.remaining file.old) (F.remaining file.new) bytes.old.items bytes.new.items) }
+    ensures failed { IfErr result IsReadFault }
+{
+    let start = bytes.len();
+    if bytes.resize(start + most, 0).is_err() {
+        return Err(FetchFault::Memory);
+    }
+    match file.read(&mut bytes[start..]) {
+        Ok(count) => {
+            bytes.truncate(start + count);
+            Ok(count)
+        }
+        Err(_) => Err(FetchFault::Failed),
+    }
+}

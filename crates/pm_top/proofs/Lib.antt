@@ -1,0 +1,15 @@
+pub mod AsciiWords
+pub mod Loops
+pub mod Tokens
+pub mod Grammar
+pub mod TextLemmas
+pub mod SearchLemmas
+pub mod Numbers
+pub mod Clauses
+pub mod Puts
+pub mod Files
+pub mod Runs
+pub mod Drawings
+pub mod HeadLemmas
+pub mod PathLemmas
+pub mod StepLemmas

@@ -1,0 +1,15 @@
+pub mod Token
+pub mod FirstForm
+pub mod Reading
+pub mod View
+pub mod Numbering
+pub mod Goals
+pub mod GoalViews
+pub mod KeyLaws
+pub mod Spaces
+pub mod Levels
+pub mod Drawing
+pub mod Status
+pub mod Text
+pub mod JobWords
+pub mod Run

@@ -1,0 +1,24 @@
+//! The top call: what the program does with its words, its files and its output.
+#![tactic(auto)]
+
+mod calculus;
+mod certificate;
+mod drawing;
+mod items;
+mod problem;
+mod put;
+mod reader;
+mod run;
+mod scan;
+mod search;
+mod space;
+mod status;
+mod texts;
+mod token;
+mod words;
+
+pub use run::run_alone;
+pub use status::Status;
+
+#[cfg(test)]
+mod tests;

@@ -1,0 +1,2 @@
+cnf(one,axiom,p | ~q).
+cnf(two,negated_conjecture,~p).
