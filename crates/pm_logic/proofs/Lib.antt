@@ -4,3 +4,12 @@ pub mod NodeLemmas
 pub mod TableLemmas
 pub mod IndexLemmas
 pub mod StartLemmas
+pub mod Prefixes
+pub mod Alternatives
+pub mod Growth
+pub mod ListsToTrees
+pub mod TreesToLists
+pub mod Instances
+pub mod Refutation
+pub mod Examples
+pub mod General

@@ -9,3 +9,10 @@ pub mod Tableau
 pub mod NodeCode
 pub mod View
 pub mod Codes
+pub mod Substitution
+pub mod Connection
+pub mod Skeleton
+pub mod Choices
+pub mod Truth
+pub mod Laws
+pub mod Examples

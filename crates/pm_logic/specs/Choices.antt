@@ -1,0 +1,108 @@
+-- Labellings, and what they say of a list of choices: reached, complete, width, the general tableau.
+use Rattle.std.specs.Prelude.{◌≡◌, ℕ, zero, suc, ◌+◌, ◌<◌, ◌⊎◌, true, List, [], ◌∷◌, ◌++◌, length, flat_map, Option, Some, None, IsSomeAnd, ⊤, slice_get}
+use Rattle.std.specs.Option.{option_map_or}
+use Rattle.pm_logic.specs.declared.problem.Class.TheVariants.{Plain}
+use Rattle.pm_logic.specs.declared.problem.Start.{Start}
+use Rattle.pm_logic.specs.Term.{Term, var, app, Terms, no_terms, more_terms}
+use Rattle.pm_logic.specs.Problem.{Literal, Clause, Problem}
+use Rattle.pm_logic.specs.Tableau.{Node, leaf, inner, Nodes, no_nodes, more_nodes, Tableau, preorder}
+use Rattle.pm_logic.specs.Substitution.{AreComplementary, IsInstanceOf}
+use Rattle.pm_logic.specs.Connection.{IsOver, IsRegularFor, IsWithin, Level}
+use Rattle.pm_logic.specs.Skeleton.{Skeleton, unclosed, closed, extended, Skeletons, no_skeletons, more_skeletons, State, empty, rooted, is_closed, alternatives, state_after}
+
+-- the one at this depth; the first has depth 1
+abbrev pub at_depth : List Literal → ℕ → Option Literal
+at_depth above zero = None
+at_depth above (suc n) = slice_get above n
+
+-- The node has the tree and the clause indices of the skeleton, and each leaf that the skeleton closes is
+-- complementary to the ancestor that closes it.
+abbrev mutual
+  pub FitsBelow : List Literal → Skeleton → Node → Type 0
+  FitsBelow above (unclosed face) (leaf literal) = ⊤
+  FitsBelow above (closed ancestor) (leaf literal) = IsSomeAnd (at_depth above ancestor) (AreComplementary literal)
+  FitsBelow above (extended c trees) (inner literal clause children) = (c ≡ clause) × FitAmong (above ++ literal ∷ []) trees children
+  FitsBelow above tree node = ⊥
+
+  pub FitAmong : List Literal → Skeletons → Nodes → Type 0
+  FitAmong above no_skeletons no_nodes = ⊤
+  FitAmong above (more_skeletons tree trees) (more_nodes node nodes) = FitsBelow above tree node × FitAmong above trees nodes
+  FitAmong above trees nodes = ⊥
+
+abbrev pub Fits : State → Tableau → Type 0
+Fits empty tableau = ⊥
+Fits (rooted root trees) tableau = (root ≡ tableau.root) × FitAmong [] trees tableau.children
+
+-- a labelling of what was built: literals for its nodes, with which each family is an instance of its
+-- clause and each closed leaf is complementary to the ancestor that closes it
+pub record IsLabelling (clauses : List Clause) (state : State) (tableau : Tableau) : Type 0 where
+  pub fits : Fits state tableau
+  pub over : IsOver clauses tableau
+
+-- some labelling is within the level's bound and, where the class is regular, has no literal twice on a
+-- branch, a closed branch included
+pub record HasLabelling (level : Level) (state : State) : Type 0 where
+  pub tableau : Tableau
+  pub labelling : IsLabelling level.problem.clauses state tableau
+  pub regular : IsRegularFor level.class tableau
+  pub within : IsWithin level.bound tableau
+
+-- before the first choice there is nothing to label
+abbrev pub IsReachedState : Level → State → Type 0
+IsReachedState level empty = ⊤
+IsReachedState level (rooted root trees) = HasLabelling level (rooted root trees)
+
+-- each number is an alternative of its place, and what they build has a labelling
+abbrev pub IsReached : Level → List ℕ → Type 0
+IsReached level choices = IsSomeAnd (state_after level choices) (IsReachedState level)
+
+pub record IsComplete (level : Level) (choices : List ℕ) : Type 0 where
+  pub reached : IsReached level choices
+  pub begun : 0 < length choices
+  pub closed : IsSomeAnd (state_after level choices) (λ state. is_closed state ≡ true)
+
+-- the number of alternatives after these choices
+abbrev pub width : Level → List ℕ → ℕ
+width level choices = option_map_or (λ state. length (alternatives level state)) (state_after level choices) 0
+
+-- a labelling of what the choices build
+abbrev pub IsLabellingOf : Level → List ℕ → Tableau → Type 0
+IsLabellingOf level choices tableau = IsSomeAnd (state_after level choices) (λ state. IsLabelling level.problem.clauses state tableau)
+
+-- At some bound, the choices build the tableau's tree with its clause indices, leave no leaf unclosed, and
+-- close each leaf by an ancestor that is complementary to it in the tableau. The class plays no part.
+pub record Follows (problem : Problem) (rule : Start) (choices : List ℕ) (tableau : Tableau) : Type 0 where
+  pub bound : ℕ
+  pub state : State
+  pub built : state_after (record { problem = problem; class = Plain; start = rule; bound = bound }) choices ≡ Some state
+  pub closed : is_closed state ≡ true
+  pub fits : Fits state tableau
+
+-- the variables of a term, from left to right, each as often as it occurs
+abbrev mutual
+  pub variables : Term → List ℕ
+  variables (var n) = n ∷ []
+  variables (app symbol args) = variables_among args
+
+  pub variables_among : Terms → List ℕ
+  variables_among no_terms = []
+  variables_among (more_terms t ts) = variables t ++ variables_among ts
+
+-- the variables of a tableau, in pre-order
+abbrev pub variables_in_order : Tableau → List ℕ
+variables_in_order tableau = flat_map (λ e. flat_map variables e.literal.args) (preorder tableau)
+
+-- each variable has occurred before, or is the next number
+abbrev pub AreNumberedFrom : ℕ → List ℕ → Type 0
+AreNumberedFrom next [] = ⊤
+AreNumberedFrom next (n ∷ ns) = ((n < next) × AreNumberedFrom next ns) ⊎ ((n ≡ next) × AreNumberedFrom (next + 1) ns)
+
+-- the variables are numbered by first occurrence in pre-order
+abbrev pub IsNumberedInOrder : Tableau → Type 0
+IsNumberedInOrder tableau = AreNumberedFrom 0 (variables_in_order tableau)
+
+-- the labelling of which each labelling is an instance, its variables numbered by first occurrence
+pub record IsGeneral (level : Level) (choices : List ℕ) (tableau : Tableau) : Type 0 where
+  pub labelling : IsLabellingOf level choices tableau
+  pub most : (other : Tableau) → IsLabellingOf level choices other → IsInstanceOf other tableau
+  pub numbered : IsNumberedInOrder tableau

@@ -1,0 +1,88 @@
+-- Small problems, and what the definitions say of them.
+use Rattle.std.specs.Prelude.{ℕ, true, false, List, [], ◌∷◌}
+use Rattle.pm_logic.specs.declared.problem.Class.{Class}
+use Rattle.pm_logic.specs.declared.problem.Class.TheVariants.{Plain, Regular}
+use Rattle.pm_logic.specs.declared.problem.Start.TheVariants.{Negative}
+use Rattle.pm_logic.specs.Term.{Term, var, app, no_terms, more_terms}
+use Rattle.pm_logic.specs.Problem.{Literal, Clause, word}
+use Rattle.pm_logic.specs.Connection.{Level}
+use Rattle.pm_logic.specs.Choices.{IsReached, IsComplete}
+
+abbrev pub p : ℕ
+p = 0
+
+abbrev pub t : ℕ
+t = 1
+
+abbrev pub u : ℕ
+u = 2
+
+abbrev pub a : Term
+a = app 3 no_terms
+
+abbrev pub f : Term → Term
+f x = app 4 (more_terms x no_terms)
+
+abbrev pub x : Term
+x = var 0
+
+abbrev pub y : Term
+y = var 1
+
+abbrev pub holds : ℕ → List Term → Literal
+holds predicate args = record { positive = true; predicate = predicate; args = args }
+
+abbrev pub fails : ℕ → List Term → Literal
+fails predicate args = record { positive = false; predicate = predicate; args = args }
+
+-- a clause of so many variables
+abbrev pub clause : ℕ → List Literal → Clause
+clause vars literals = record { name = word []; role = []; vars = vars; literals = literals }
+
+-- the level of these clauses that starts with a negative one
+abbrev pub level : List Clause → Class → ℕ → Level
+level clauses class bound = record { problem = record { symbols = []; terms = []; clauses = clauses }; class = class; start = Negative; bound = bound }
+
+-- p(a); ~p(X) | p(f(X)); ~p(f(f(a)))
+abbrev pub steps : List Clause
+steps = clause 0 (holds p (a ∷ []) ∷ []) ∷ clause 1 (fails p (x ∷ []) ∷ holds p (f x ∷ []) ∷ []) ∷ clause 0 (fails p (f (f a) ∷ []) ∷ []) ∷ []
+
+-- the depth counts literals, the deepest leaf's too
+abbrev pub DepthExample : Type 0
+DepthExample = IsComplete (level steps Plain 4) (0 ∷ 1 ∷ 2 ∷ 2 ∷ []) × (¬ IsReached (level steps Plain 3) (0 ∷ 1 ∷ 2 ∷ 2 ∷ []))
+
+-- p(X,X); ~p(Y,f(Y))
+abbrev pub diagonal : List Clause
+diagonal = clause 1 (holds p (x ∷ x ∷ []) ∷ []) ∷ clause 1 (fails p (x ∷ f x ∷ []) ∷ []) ∷ []
+
+-- no finite term is its own argument
+abbrev pub FiniteTermsExample : Type 0
+FiniteTermsExample = (bound : ℕ) → ¬ IsReached (level diagonal Plain bound) (0 ∷ 0 ∷ [])
+
+-- p(Y) | ~p(Z); p(a); ~p(X) | ~t(X); t(a) | ~u; u
+abbrev pub shared : List Clause
+shared =
+    clause 2 (holds p (x ∷ []) ∷ fails p (y ∷ []) ∷ [])
+    ∷ clause 0 (holds p (a ∷ []) ∷ [])
+    ∷ clause 1 (fails p (x ∷ []) ∷ fails t (x ∷ []) ∷ [])
+    ∷ clause 0 (holds t (a ∷ []) ∷ fails u [] ∷ [])
+    ∷ clause 0 (holds u [] ∷ [])
+    ∷ []
+
+-- a branch that is closed already counts for regularity: the last choice puts ~p(a) on it twice
+abbrev pub ClosedBranchExample : Type 0
+ClosedBranchExample = (¬ IsReached (level shared Regular 3) (0 ∷ 0 ∷ 2 ∷ 0 ∷ [])) × IsReached (level shared Plain 3) (0 ∷ 0 ∷ 2 ∷ 0 ∷ []) × IsComplete (level shared Regular 3) (0 ∷ 1 ∷ 0 ∷ 1 ∷ [])
+
+-- p(Y) | ~p(Z); p(a); ~p(X) | ~t; t | ~u; u
+abbrev pub apart : List Clause
+apart =
+    clause 2 (holds p (x ∷ []) ∷ fails p (y ∷ []) ∷ [])
+    ∷ clause 0 (holds p (a ∷ []) ∷ [])
+    ∷ clause 1 (fails p (x ∷ []) ∷ fails t [] ∷ [])
+    ∷ clause 0 (holds t [] ∷ fails u [] ∷ [])
+    ∷ clause 0 (holds u [] ∷ [])
+    ∷ []
+
+-- a variable that is left free differs from each constant: ~p(X) above ~p(a) is no repeat
+abbrev pub FreeVariableExample : Type 0
+FreeVariableExample = IsComplete (level apart Regular 3) (0 ∷ 0 ∷ 2 ∷ 0 ∷ 1 ∷ [])

@@ -1,0 +1,57 @@
+-- What holds of the definitions: each law stands on a function of src/laws.rt.
+use Rattle.std.specs.Prelude.{◌≡◌, ◌≢◌, ◌↔◌, ℕ, ◌<◌, List, [], ◌∷◌, ◌++◌, map}
+use Rattle.pm_logic.specs.Term.{Term}
+use Rattle.pm_logic.specs.Problem.{Symbol, Literal, Clause, Problem, IsClauseOver, IsValid}
+use Rattle.pm_logic.specs.Tableau.{Tableau}
+use Rattle.pm_logic.specs.Substitution.{put_in_literal, IsInstance, IsInstanceOf}
+use Rattle.pm_logic.specs.Connection.{IsOver, IsClosed, IsRegular, IsRegularFor, Level, IsInClass}
+use Rattle.pm_logic.specs.Skeleton.{State}
+use Rattle.pm_logic.specs.Choices.{IsLabelling, IsReached, IsComplete, IsLabellingOf, Follows, IsGeneral, width}
+use Rattle.pm_logic.specs.Truth.{Atom, HasFalseInstance}
+
+-- each prefix of a reached list is reached
+abbrev pub PrefixesAreReached : Type 0
+PrefixesAreReached = (level : Level) (choices more : List ℕ) → IsReached level (choices ++ more) → IsReached level choices
+
+-- each number of a reached list is below the width of the list before it
+abbrev pub ChoicesAreBelowWidths : Type 0
+ChoicesAreBelowWidths = (level : Level) (choices : List ℕ) (choice : ℕ) (more : List ℕ) → IsReached level (choices ++ choice ∷ more) → choice < width level choices
+
+-- a complete list is reached, isn't empty, and has no alternatives
+abbrev pub CompleteListsEnd : Type 0
+CompleteListsEnd = (level : Level) (choices : List ℕ) → IsComplete level choices → IsReached level choices × (choices ≢ []) × (width level choices ≡ 0)
+
+-- a labelling of what a complete list builds is in the class of the level, if it is as regular as the class asks
+abbrev pub CompleteListsGiveTableaux : Type 0
+CompleteListsGiveTableaux = (level : Level) (choices : List ℕ) (tableau : Tableau) → IsComplete level choices → IsLabellingOf level choices tableau → IsRegularFor level.class tableau → IsInClass level tableau
+
+-- the general tableau of a complete list is in the class of the level
+abbrev pub GeneralTableauxAreInClass : Type 0
+GeneralTableauxAreInClass = (level : Level) (choices : List ℕ) (tableau : Tableau) → IsComplete level choices → IsGeneral level choices tableau → IsInClass level tableau
+
+-- each tableau of the class follows a list that is complete at the level
+abbrev pub TableauxFollowCompleteLists : Type 0
+TableauxFollowCompleteLists = (level : Level) (tableau : Tableau) → IsInClass level tableau → (choices : List ℕ) × IsComplete level choices × Follows level.problem level.start choices tableau
+
+-- a level has a complete list exactly where its class has a member
+abbrev pub ListsAndTableauxAgree : Type 0
+ListsAndTableauxAgree = (level : Level) → ((choices : List ℕ) × IsComplete level choices) ↔ ((tableau : Tableau) × IsInClass level tableau)
+
+-- an instance of an instance is an instance: of a tableau, and of a clause whose variables are its own
+abbrev pub InstancesCompose : Type 0
+InstancesCompose = (first second third : Tableau) → IsInstanceOf second first → IsInstanceOf third second → IsInstanceOf third first
+
+abbrev pub ClauseInstancesCompose : Type 0
+ClauseInstancesCompose = (symbols : List Symbol) (clause : Clause) (literals : List Literal) (terms : List Term) → IsClauseOver symbols clause → IsInstance clause literals → IsInstance clause (map (put_in_literal terms) literals)
+
+-- an instance of a labelling is a labelling
+abbrev pub InstancesLabel : Type 0
+InstancesLabel = (problem : Problem) (state : State) (tableau other : Tableau) → IsValid problem → IsLabelling problem.clauses state other → IsInstanceOf tableau other → IsLabelling problem.clauses state tableau
+
+-- where an instance has no literal twice on a branch, neither has what it is an instance of
+abbrev pub RegularityReflects : Type 0
+RegularityReflects = (tableau other : Tableau) → IsInstanceOf tableau other → IsRegular tableau → IsRegular other
+
+-- under every truth assignment, a closed tableau has a false clause instance among its families
+abbrev pub ClosedTableauxAreRefuted : Type 0
+ClosedTableauxAreRefuted = (clauses : List Clause) (tableau : Tableau) → IsOver clauses tableau → IsClosed tableau → (atoms : List Atom) → HasFalseInstance clauses tableau atoms
