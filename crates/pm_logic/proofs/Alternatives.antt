@@ -58,7 +58,7 @@ pub record IsOpposite (clauses : List Clause) (face : Face) (c j : ℕ) : Type 0
   pub has : slice_get clause.literals j ≡ Some literal
   pub opposite : is_opposite face literal ≡ true
 
-extension_sound : (face : Face) (from : ℕ) (cs : List Clause) (step : Step) (n : ℕ) → slice_get (extensions face from cs) n ≡ Some step
+pub extension_sound : (face : Face) (from : ℕ) (cs : List Clause) (step : Step) (n : ℕ) → slice_get (extensions face from cs) n ≡ Some step
     → (c j : ℕ) × (step ≡ extend (from + c) j) × IsOpposite cs face c j
 extension_sound face from [] step n is = cc
 extension_sound face from (clause ∷ cs) step n is =

@@ -1,14 +1,14 @@
 -- The worked examples, mostly by computation.
-use Rattle.std.proofs.Common.{◌≡◌, ℕ, zero, ◌+◌, Bool, true, false, cond, nat_lt, not, List, [], ◌∷◌, ◌++◌, get_or, IsSomeAnd, Contains, slice_get, option_map, refl, sym, ◌∙◌, ap, subst, arith}
+use Rattle.std.proofs.Common.{◌≡◌, ℕ, zero, ◌+◌, inl, inr, Bool, true, false, cond, nat_lt, not, List, [], ◌∷◌, ◌++◌, get_or, IsSomeAnd, Contains, slice_get, option_map, refl, sym, ◌∙◌, ap, subst, arith}
 use Rattle.pm_logic.specs.declared.problem.Class.TheVariants.{Plain, Regular}
 use Rattle.pm_logic.specs.Term.{Term, var, app, Terms, no_terms, more_terms}
 use Rattle.pm_logic.specs.Problem.{Literal}
 use Rattle.pm_logic.specs.Tableau.{leaf, inner, Nodes, no_nodes, more_nodes, Tableau}
-use Rattle.pm_logic.specs.Substitution.{AreComplementary}
+use Rattle.pm_logic.specs.Substitution.{put_in_nodes, IsInstanceOf, AreComplementary}
 use Rattle.pm_logic.specs.Connection.{IsFamily, HaveFamilies, AreRegularBelow}
-use Rattle.pm_logic.specs.Skeleton.{unclosed, closed, extended, Skeletons, no_skeletons, more_skeletons, rooted, extend, after_step}
-use Rattle.pm_logic.specs.Choices.{at_depth, FitAmong, IsReachedState, IsReached}
-use Rattle.pm_logic.specs.Examples.{p, t, u, a, f, x, holds, fails, level, steps, diagonal, shared, apart, DepthExample, FiniteTermsExample, ClosedBranchExample, FreeVariableExample}
+use Rattle.pm_logic.specs.Skeleton.{Skeleton, unclosed, closed, extended, Skeletons, no_skeletons, more_skeletons, State, empty, rooted, Step, extend, after_step}
+use Rattle.pm_logic.specs.Choices.{at_depth, FitAmong, IsReachedState, IsReached, IsLabellingOf}
+use Rattle.pm_logic.specs.Examples.{p, t, u, a, f, x, holds, fails, level, steps, diagonal, tautology, shared, apart, apart_tableau, DepthExample, FiniteTermsExample, LeafExample, ClosedBranchExample, FreeVariableExample}
 use Rattle.pm_logic.proofs.Refutation.{not_among}
 
 abbrev steps_tableau : Tableau
@@ -51,7 +51,7 @@ steps_reached = record {
 }
 
 pub depth_example : DepthExample
-depth_example = (record { reached = steps_reached; begun = omega arith; closed = refl }, λ h. h)
+depth_example = (record { reached = steps_reached; begun = omega arith; closed = refl }, λ h. h, refl, refl)
 
 -- the parts of a tableau that fits a tree
 inner_case : (P : Nodes → Type 0) (above : List Literal) (c : ℕ) (trees ss : Skeletons)
@@ -247,11 +247,7 @@ closed_branch = (
 
 apart_reached : IsReached (level apart Regular 3) (0 ∷ 0 ∷ 2 ∷ 0 ∷ 1 ∷ [])
 apart_reached = record {
-  tableau = record {
-    root = 2;
-    children = more_nodes (inner (fails p (x ∷ [])) 0 (more_nodes (leaf (holds p (x ∷ []))) (more_nodes (inner (fails p (a ∷ [])) 1 (more_nodes (leaf (holds p (a ∷ []))) no_nodes)) no_nodes)))
-        (more_nodes (inner (fails t []) 3 (more_nodes (leaf (holds t [])) (more_nodes (inner (fails u []) 4 (more_nodes (leaf (holds u [])) no_nodes)) no_nodes))) no_nodes);
-  };
+  tableau = apart_tableau;
   labelling = record {
     fits = (refl, ((refl, (opposite p (x ∷ []), ((refl, (opposite p (a ∷ []), tt)), tt))), ((refl, (opposite t [], ((refl, (opposite u [], tt)), tt))), tt)));
     over = (
@@ -299,5 +295,148 @@ apart_reached = record {
     free : ¬ fails p (x ∷ []) ≡ fails p (a ∷ [])
     free is = let args : x ∷ [] ≡ a ∷ [] = ap (λ (l : Literal). l.args) is in cc
 
+open_case : (P : Nodes → Type 0) (above : List Literal) (face : Rattle.pm_logic.specs.Skeleton.Face) (ss : Skeletons)
+    → ((l : Literal) (others : Nodes) → FitAmong above ss others → P (more_nodes (leaf l) others))
+    → (ns : Nodes) → FitAmong above (more_skeletons (unclosed face) ss) ns → P ns
+open_case P above face ss here no_nodes fits = absurd fits
+open_case P above face ss here (more_nodes (leaf l) ns) fits = here l ns fits.1
+open_case P above face ss here (more_nodes (inner l d children) ns) fits = absurd fits.0
+
+none_case : (P : Nodes → Type 0) (above : List Literal) → P no_nodes → (ns : Nodes) → FitAmong above no_skeletons ns → P ns
+none_case P above here no_nodes fits = here
+none_case P above here (more_nodes n ns) fits = absurd fits
+
+-- p(X) is complementary to ~p(a), so ~p(X) is ~p(a)
+same_leaf : (l m n : Literal) (ns ms : Nodes) → IsFamily tautology 2 (more_nodes (inner l 0 (more_nodes (leaf m) (more_nodes (leaf n) ms))) ns)
+    → HaveFamilies tautology (more_nodes (inner l 0 (more_nodes (leaf m) (more_nodes (leaf n) ms))) ns) → AreComplementary m l → l ≡ n
+same_leaf l m n ns ms root inside pair =
+    let s : Term = get_or ((inside.0).0).terms 0 (var 0) in
+    let l_is : l ≡ fails p (a ∷ []) = first_same _ _ _ _ root.each in
+    let m_is : m ≡ holds p (s ∷ []) = first_same _ _ _ _ ((inside.0).0).each in
+    let n_is : n ≡ fails p (s ∷ []) = second_same _ _ _ _ _ _ ((inside.0).0).each in
+    complement (s ∷ []) p m l m_is pair ∙ sym n_is
+
+abbrev NoLeaf : Nodes → Type 0
+NoLeaf ns = IsFamily tautology 2 ns → HaveFamilies tautology ns → AreRegularBelow [] ns → ⊥
+
+abbrev one_open : Skeletons
+one_open = more_skeletons (unclosed (record { positive = false; predicate = p })) no_skeletons
+
+leaf_fits : (ns : Nodes) → FitAmong [] (more_skeletons (extended 0 (more_skeletons (closed 1) one_open)) no_skeletons) ns → NoLeaf ns
+leaf_fits = inner_case NoLeaf [] 0 (more_skeletons (closed 1) one_open) no_skeletons (λ l children ns fits ns_fit.
+    leaf_case (λ below. NoLeaf (more_nodes (inner l 0 below) ns)) (l ∷ []) 1 one_open (λ m others pair others_fit.
+    open_case (λ below. NoLeaf (more_nodes (inner l 0 (more_nodes (leaf m) below)) ns)) (l ∷ []) (record { positive = false; predicate = p }) no_skeletons (λ n ms ms_fit root inside regular.
+    (((regular.0).1).1).0 (zero, omega arith, same_leaf l m n ns ms root inside pair))
+    others others_fit)
+    children fits)
+
+tautology_reached : IsReached (level tautology Plain 2) (0 ∷ 0 ∷ [])
+tautology_reached = record {
+  tableau = record {
+    root = 2;
+    children = more_nodes (inner (fails p (a ∷ [])) 0 (more_nodes (leaf (holds p (a ∷ []))) (more_nodes (leaf (fails p (a ∷ []))) no_nodes))) no_nodes;
+  };
+  labelling = record {
+    fits = (refl, ((refl, (opposite p (a ∷ []), (tt, tt))), tt));
+    over = (record { terms = []; count = refl; each = refl }, ((record { terms = a ∷ []; count = refl; each = refl }, (tt, (tt, tt))), tt));
+  };
+  regular = tt;
+  within = record { depth = omega arith };
+}
+
+pub leaf_counts : LeafExample
+leaf_counts = (
+  tautology_reached,
+  λ h. leaf_fits h.tableau.children h.labelling.fits.1
+      (subst (λ (c : ℕ). IsFamily tautology c h.tableau.children) (sym h.labelling.fits.0) h.labelling.over.0) h.labelling.over.1 h.regular,
+)
+
+-- each labelling of 0 0 2 0 1 over the clauses `apart` is an instance of the tableau with X left free
+abbrev IsFree : Nodes → Type 0
+IsFree ns = IsFamily apart 2 ns → HaveFamilies apart ns → (terms : List Term) × (ns ≡ put_in_nodes terms apart_tableau.children)
+
+abbrev apart_nodes : (l m n q k r j v : Literal) → Nodes
+apart_nodes l m n q k r j v =
+    more_nodes (inner l 0 (more_nodes (leaf m) (more_nodes (inner n 1 (more_nodes (leaf q) no_nodes)) no_nodes)))
+    (more_nodes (inner k 3 (more_nodes (leaf r) (more_nodes (inner j 4 (more_nodes (leaf v) no_nodes)) no_nodes))) no_nodes)
+
+free : (l m n q k r j v : Literal) → AreComplementary m l → AreComplementary q n → IsFree (apart_nodes l m n q k r j v)
+free l m n q k r j v m_l q_n root inside =
+    let s : Term = get_or root.terms 0 (var 0) in
+    let z : Term = get_or ((inside.0).0).terms 0 (var 0) in
+    let l_is : l ≡ fails p (s ∷ []) = first_same _ _ _ _ root.each in
+    let k_is : k ≡ fails t [] = second_same _ _ _ _ _ _ root.each in
+    let m_first : m ≡ holds p (z ∷ []) = first_same _ _ _ _ ((inside.0).0).each in
+    let args : z ∷ [] ≡ s ∷ [] = sym (ap (λ (i : Literal). i.args) m_first) ∙ m_l.args ∙ ap (λ (i : Literal). i.args) l_is in
+    let m_is : m ≡ holds p (s ∷ []) = m_first ∙ ap (λ (ts : List Term). holds p ts) args in
+    let q_is : q ≡ holds p (a ∷ []) = first_same _ _ _ _ ((((((inside.0).1).1).0).0).each) in
+    let n_is : n ≡ fails p (a ∷ []) = complement (a ∷ []) p q n q_is q_n in
+    let r_is : r ≡ holds t [] = first_same _ _ _ _ ((((inside.1).0).0).each) in
+    let j_is : j ≡ fails u [] = second_same _ _ _ _ _ _ ((((inside.1).0).0).each) in
+    let v_is : v ≡ holds u [] = first_same _ _ _ _ (((((((inside.1).0).1).1).0).0).each) in (
+      s ∷ [],
+      ap (λ (i : Literal). apart_nodes i m n q k r j v) l_is
+          ∙ ap (λ (i : Literal). apart_nodes (fails p (s ∷ [])) i n q k r j v) m_is
+          ∙ ap (λ (i : Literal). apart_nodes (fails p (s ∷ [])) (holds p (s ∷ [])) i q k r j v) n_is
+          ∙ ap (λ (i : Literal). apart_nodes (fails p (s ∷ [])) (holds p (s ∷ [])) (fails p (a ∷ [])) i k r j v) q_is
+          ∙ ap (λ (i : Literal). apart_nodes (fails p (s ∷ [])) (holds p (s ∷ [])) (fails p (a ∷ [])) (holds p (a ∷ [])) i r j v) k_is
+          ∙ ap (λ (i : Literal). apart_nodes (fails p (s ∷ [])) (holds p (s ∷ [])) (fails p (a ∷ [])) (holds p (a ∷ [])) (fails t []) i j v) r_is
+          ∙ ap (λ (i : Literal). apart_nodes (fails p (s ∷ [])) (holds p (s ∷ [])) (fails p (a ∷ [])) (holds p (a ∷ [])) (fails t []) (holds t []) i v) j_is
+          ∙ ap (λ (i : Literal). apart_nodes (fails p (s ∷ [])) (holds p (s ∷ [])) (fails p (a ∷ [])) (holds p (a ∷ [])) (fails t []) (holds t []) (fails u []) i) v_is,
+    )
+
+abbrev closed_alone : ℕ → Skeletons
+closed_alone k = more_skeletons (closed k) no_skeletons
+
+abbrev right_children : Skeletons
+right_children = more_skeletons (closed 1) (more_skeletons (extended 4 (closed_alone 2)) no_skeletons)
+
+abbrev left_children : Skeletons
+left_children = more_skeletons (closed 1) (more_skeletons (extended 1 (closed_alone 2)) no_skeletons)
+
+right_fits : (l m n q : Literal) → AreComplementary m l → AreComplementary q n
+    → (ns : Nodes) → FitAmong [] (more_skeletons (extended 3 right_children) no_skeletons) ns
+    → IsFree (more_nodes (inner l 0 (more_nodes (leaf m) (more_nodes (inner n 1 (more_nodes (leaf q) no_nodes)) no_nodes))) ns)
+right_fits l m n q m_l q_n = inner_case (λ ns. IsFree (more_nodes (inner l 0 (more_nodes (leaf m) (more_nodes (inner n 1 (more_nodes (leaf q) no_nodes)) no_nodes))) ns)) [] 3 right_children no_skeletons (λ k children ns fits ns_fit.
+    none_case (λ ns. IsFree (more_nodes (inner l 0 (more_nodes (leaf m) (more_nodes (inner n 1 (more_nodes (leaf q) no_nodes)) no_nodes))) (more_nodes (inner k 3 children) ns))) []
+    (leaf_case (λ below. IsFree (more_nodes (inner l 0 (more_nodes (leaf m) (more_nodes (inner n 1 (more_nodes (leaf q) no_nodes)) no_nodes))) (more_nodes (inner k 3 below) no_nodes))) (k ∷ []) 1 (more_skeletons (extended 4 (closed_alone 2)) no_skeletons) (λ r others r_k others_fit.
+    inner_case (λ below. IsFree (more_nodes (inner l 0 (more_nodes (leaf m) (more_nodes (inner n 1 (more_nodes (leaf q) no_nodes)) no_nodes))) (more_nodes (inner k 3 (more_nodes (leaf r) below)) no_nodes))) (k ∷ []) 4 (closed_alone 2) no_skeletons (λ j below ms below_fit ms_fit.
+    none_case (λ ms. IsFree (more_nodes (inner l 0 (more_nodes (leaf m) (more_nodes (inner n 1 (more_nodes (leaf q) no_nodes)) no_nodes))) (more_nodes (inner k 3 (more_nodes (leaf r) (more_nodes (inner j 4 below) ms))) no_nodes))) (k ∷ [])
+    (leaf_case (λ below. IsFree (more_nodes (inner l 0 (more_nodes (leaf m) (more_nodes (inner n 1 (more_nodes (leaf q) no_nodes)) no_nodes))) (more_nodes (inner k 3 (more_nodes (leaf r) (more_nodes (inner j 4 below) no_nodes))) no_nodes))) (k ∷ j ∷ []) 2 no_skeletons (λ v vs v_j vs_fit.
+    none_case (λ vs. IsFree (more_nodes (inner l 0 (more_nodes (leaf m) (more_nodes (inner n 1 (more_nodes (leaf q) no_nodes)) no_nodes))) (more_nodes (inner k 3 (more_nodes (leaf r) (more_nodes (inner j 4 (more_nodes (leaf v) vs)) no_nodes))) no_nodes))) (k ∷ j ∷ [])
+    (free l m n q k r j v m_l q_n) vs vs_fit)
+    below below_fit)
+    ms ms_fit)
+    others others_fit)
+    children fits)
+    ns ns_fit)
+
+apart_fits : (ns : Nodes) → FitAmong [] (more_skeletons (extended 0 left_children) (more_skeletons (extended 3 right_children) no_skeletons)) ns → IsFree ns
+apart_fits = inner_case IsFree [] 0 left_children (more_skeletons (extended 3 right_children) no_skeletons) (λ l children others fits others_fit.
+    leaf_case (λ below. IsFree (more_nodes (inner l 0 below) others)) (l ∷ []) 1 (more_skeletons (extended 1 (closed_alone 2)) no_skeletons) (λ m below m_l below_fit.
+    inner_case (λ below. IsFree (more_nodes (inner l 0 (more_nodes (leaf m) below)) others)) (l ∷ []) 1 (closed_alone 2) no_skeletons (λ n qs ms qs_fit ms_fit.
+    none_case (λ ms. IsFree (more_nodes (inner l 0 (more_nodes (leaf m) (more_nodes (inner n 1 qs) ms))) others)) (l ∷ [])
+    (leaf_case (λ qs. IsFree (more_nodes (inner l 0 (more_nodes (leaf m) (more_nodes (inner n 1 qs) no_nodes))) others)) (l ∷ n ∷ []) 2 no_skeletons (λ q rest q_n rest_fit.
+    none_case (λ rest. IsFree (more_nodes (inner l 0 (more_nodes (leaf m) (more_nodes (inner n 1 (more_nodes (leaf q) rest)) no_nodes))) others)) (l ∷ n ∷ [])
+    (right_fits l m n q m_l q_n others others_fit) rest rest_fit)
+    qs qs_fit)
+    ms ms_fit)
+    below below_fit)
+    children fits)
+
+most_free : (other : Tableau) → IsLabellingOf (level apart Regular 3) (0 ∷ 0 ∷ 2 ∷ 0 ∷ 1 ∷ []) other → IsInstanceOf other apart_tableau
+most_free other h =
+    let found = apart_fits other.children h.fits.1 (subst (λ (c : ℕ). IsFamily apart c other.children) (sym h.fits.0) h.over.0) h.over.1 in
+    let make : ℕ → Nodes → Tableau = λ root children. record { root = root; children = children } in
+    (found.0, ap (λ (c : ℕ). make c other.children) (sym h.fits.0) ∙ ap (make 2) found.1)
+
 pub free_variable : FreeVariableExample
-free_variable = record { reached = apart_reached; begun = omega arith; closed = refl }
+unfolding apart_reached
+free_variable = (
+  record { reached = apart_reached; begun = omega arith; closed = refl },
+  record {
+    labelling = apart_reached.labelling;
+    most = most_free;
+    numbered = inr (refl, inl (omega arith, tt));
+  },
+)

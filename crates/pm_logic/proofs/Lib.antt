@@ -13,3 +13,5 @@ pub mod Instances
 pub mod Refutation
 pub mod Examples
 pub mod General
+pub mod Unique
+pub mod Levels

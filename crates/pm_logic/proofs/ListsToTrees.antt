@@ -84,12 +84,12 @@ mutual
 
 -- how deep a tree is
 abbrev mutual
-  tall_below : Skeleton → ℕ
+  pub tall_below : Skeleton → ℕ
   tall_below (unclosed face) = 1
   tall_below (closed a) = 1
   tall_below (extended c trees) = 1 + tall_among trees
 
-  tall_among : Skeletons → ℕ
+  pub tall_among : Skeletons → ℕ
   tall_among no_skeletons = 0
   tall_among (more_skeletons s ss) = max (tall_below s) (tall_among ss)
 
@@ -102,7 +102,7 @@ mutual
   tall_fits above (extended e trees) (leaf l) f = absurd f
   tall_fits above (extended e trees) (inner l c ns) f = ap (λ k. 1 + k) (tall_fit (above ++ l ∷ []) trees ns f.1)
 
-  tall_fit : (above : List Literal) (ss : Skeletons) (ns : Nodes) → FitAmong above ss ns → depth_among ns ≡ tall_among ss
+  pub tall_fit : (above : List Literal) (ss : Skeletons) (ns : Nodes) → FitAmong above ss ns → depth_among ns ≡ tall_among ss
   tall_fit above no_skeletons no_nodes f = refl
   tall_fit above no_skeletons (more_nodes n ns) f = absurd f
   tall_fit above (more_skeletons s ss) no_nodes f = absurd f

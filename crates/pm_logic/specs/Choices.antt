@@ -29,6 +29,7 @@ abbrev mutual
   FitAmong above (more_skeletons tree trees) (more_nodes node nodes) = FitsBelow above tree node × FitAmong above trees nodes
   FitAmong above trees nodes = ⊥
 
+-- the same of a whole tableau
 abbrev pub Fits : State → Tableau → Type 0
 Fits empty tableau = ⊥
 Fits (rooted root trees) tableau = (root ≡ tableau.root) × FitAmong [] trees tableau.children
@@ -56,6 +57,7 @@ IsReachedState level (rooted root trees) = HasLabelling level (rooted root trees
 abbrev pub IsReached : Level → List ℕ → Type 0
 IsReached level choices = IsSomeAnd (state_after level choices) (IsReachedState level)
 
+-- reached, not empty, and with no leaf unclosed
 pub record IsComplete (level : Level) (choices : List ℕ) : Type 0 where
   pub reached : IsReached level choices
   pub begun : 0 < length choices

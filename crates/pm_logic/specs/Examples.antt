@@ -1,12 +1,13 @@
 -- Small problems, and what the definitions say of them.
-use Rattle.std.specs.Prelude.{ℕ, true, false, List, [], ◌∷◌}
+use Rattle.std.specs.Prelude.{◌≡◌, ℕ, true, false, List, [], ◌∷◌}
 use Rattle.pm_logic.specs.declared.problem.Class.{Class}
 use Rattle.pm_logic.specs.declared.problem.Class.TheVariants.{Plain, Regular}
 use Rattle.pm_logic.specs.declared.problem.Start.TheVariants.{Negative}
 use Rattle.pm_logic.specs.Term.{Term, var, app, no_terms, more_terms}
 use Rattle.pm_logic.specs.Problem.{Literal, Clause, word}
+use Rattle.pm_logic.specs.Tableau.{leaf, inner, Nodes, no_nodes, more_nodes, Tableau}
 use Rattle.pm_logic.specs.Connection.{Level}
-use Rattle.pm_logic.specs.Choices.{IsReached, IsComplete}
+use Rattle.pm_logic.specs.Choices.{IsReached, IsComplete, IsGeneral, width}
 
 abbrev pub p : ℕ
 p = 0
@@ -47,9 +48,13 @@ level clauses class bound = record { problem = record { symbols = []; terms = []
 abbrev pub steps : List Clause
 steps = clause 0 (holds p (a ∷ []) ∷ []) ∷ clause 1 (fails p (x ∷ []) ∷ holds p (f x ∷ []) ∷ []) ∷ clause 0 (fails p (f (f a) ∷ []) ∷ []) ∷ []
 
--- the depth counts literals, the deepest leaf's too
+-- the depth counts literals, the deepest leaf's too; a leaf as deep as the bound has reductions alone
 abbrev pub DepthExample : Type 0
-DepthExample = IsComplete (level steps Plain 4) (0 ∷ 1 ∷ 2 ∷ 2 ∷ []) × (¬ IsReached (level steps Plain 3) (0 ∷ 1 ∷ 2 ∷ 2 ∷ []))
+DepthExample =
+    IsComplete (level steps Plain 4) (0 ∷ 1 ∷ 2 ∷ 2 ∷ [])
+    × (¬ IsReached (level steps Plain 3) (0 ∷ 1 ∷ 2 ∷ 2 ∷ []))
+    × (width (level steps Plain 4) (0 ∷ 1 ∷ 2 ∷ []) ≡ 4)
+    × (width (level steps Plain 3) (0 ∷ 1 ∷ 2 ∷ []) ≡ 2)
 
 -- p(X,X); ~p(Y,f(Y))
 abbrev pub diagonal : List Clause
@@ -58,6 +63,14 @@ diagonal = clause 1 (holds p (x ∷ x ∷ []) ∷ []) ∷ clause 1 (fails p (x �
 -- no finite term is its own argument
 abbrev pub FiniteTermsExample : Type 0
 FiniteTermsExample = (bound : ℕ) → ¬ IsReached (level diagonal Plain bound) (0 ∷ 0 ∷ [])
+
+-- p(X) | ~p(X); p(a); ~p(a)
+abbrev pub tautology : List Clause
+tautology = clause 1 (holds p (x ∷ []) ∷ fails p (x ∷ []) ∷ []) ∷ clause 0 (holds p (a ∷ []) ∷ []) ∷ clause 0 (fails p (a ∷ []) ∷ []) ∷ []
+
+-- a leaf counts for regularity, also one that isn't closed yet: it would have the literal of its parent
+abbrev pub LeafExample : Type 0
+LeafExample = IsReached (level tautology Plain 2) (0 ∷ 0 ∷ []) × (¬ IsReached (level tautology Regular 2) (0 ∷ 0 ∷ []))
 
 -- p(Y) | ~p(Z); p(a); ~p(X) | ~t(X); t(a) | ~u; u
 abbrev pub shared : List Clause
@@ -83,6 +96,20 @@ apart =
     ∷ clause 0 (holds u [] ∷ [])
     ∷ []
 
+-- a leaf with this literal, alone
+abbrev pub closed_by : Literal → Nodes
+closed_by literal = more_nodes (leaf literal) no_nodes
+
+abbrev pub apart_tableau : Tableau
+apart_tableau = record {
+  root = 2;
+  children =
+      more_nodes (inner (fails p (x ∷ [])) 0 (more_nodes (leaf (holds p (x ∷ []))) (more_nodes (inner (fails p (a ∷ [])) 1 (closed_by (holds p (a ∷ [])))) no_nodes)))
+      (more_nodes (inner (fails t []) 3 (more_nodes (leaf (holds t [])) (more_nodes (inner (fails u []) 4 (closed_by (holds u []))) no_nodes))) no_nodes);
+}
+
 -- a variable that is left free differs from each constant: ~p(X) above ~p(a) is no repeat
 abbrev pub FreeVariableExample : Type 0
-FreeVariableExample = IsComplete (level apart Regular 3) (0 ∷ 0 ∷ 2 ∷ 0 ∷ 1 ∷ [])
+FreeVariableExample =
+    IsComplete (level apart Regular 3) (0 ∷ 0 ∷ 2 ∷ 0 ∷ 1 ∷ [])
+    × IsGeneral (level apart Regular 3) (0 ∷ 0 ∷ 2 ∷ 0 ∷ 1 ∷ []) apart_tableau

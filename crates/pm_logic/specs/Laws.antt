@@ -29,9 +29,17 @@ CompleteListsGiveTableaux = (level : Level) (choices : List ℕ) (tableau : Tabl
 abbrev pub GeneralTableauxAreInClass : Type 0
 GeneralTableauxAreInClass = (level : Level) (choices : List ℕ) (tableau : Tableau) → IsComplete level choices → IsGeneral level choices tableau → IsInClass level tableau
 
+-- a list has one general tableau at most
+abbrev pub GeneralTableauxAreUnique : Type 0
+GeneralTableauxAreUnique = (level : Level) (choices : List ℕ) (first second : Tableau) → IsGeneral level choices first → IsGeneral level choices second → first ≡ second
+
 -- each tableau of the class follows a list that is complete at the level
 abbrev pub TableauxFollowCompleteLists : Type 0
 TableauxFollowCompleteLists = (level : Level) (tableau : Tableau) → IsInClass level tableau → (choices : List ℕ) × IsComplete level choices × Follows level.problem level.start choices tableau
+
+-- a list that a tableau of the class follows is complete at the level
+abbrev pub FollowedListsAreComplete : Type 0
+FollowedListsAreComplete = (level : Level) (choices : List ℕ) (tableau : Tableau) → IsInClass level tableau → Follows level.problem level.start choices tableau → IsComplete level choices
 
 -- a level has a complete list exactly where its class has a member
 abbrev pub ListsAndTableauxAgree : Type 0

@@ -48,6 +48,7 @@ abbrev mutual
   are_closed_below no_skeletons = true
   are_closed_below (more_skeletons first others) = is_closed_below first && are_closed_below others
 
+-- the same of a state; where nothing is built there is no leaf
 abbrev pub is_closed : State → Bool
 is_closed empty = true
 is_closed (rooted root children) = are_closed_below children
@@ -92,6 +93,7 @@ leaves_but literal parent [] = no_skeletons
 leaves_but zero parent (l ∷ ls) = more_skeletons (closed parent) (leaves ls)
 leaves_but (suc literal) parent (l ∷ ls) = more_skeletons (unclosed (face_of l)) (leaves_but literal parent ls)
 
+-- the literals of the clause of this index
 abbrev pub literals_at : List Clause → ℕ → List Literal
 literals_at clauses clause = option_map_or (λ c. c.literals) (slice_get clauses clause) []
 
@@ -99,6 +101,7 @@ literals_at clauses clause = option_map_or (λ c. c.literals) (slice_get clauses
 abbrev pub extension : List Clause → ℕ → ℕ → ℕ → Skeleton
 extension clauses clause literal at_depth = extended clause (leaves_but literal at_depth (literals_at clauses clause))
 
+-- what a step builds; elsewhere than at its place it changes nothing
 abbrev pub after_step : List Clause → State → Step → State
 after_step clauses empty (start clause) = rooted clause (leaves (literals_at clauses clause))
 after_step clauses (rooted root children) (extend clause literal) = rooted root (filled_among (extension clauses clause literal) 1 children)
@@ -134,5 +137,6 @@ abbrev pub after_choice : Level → Option State → ℕ → Option State
 after_choice level None choice = None
 after_choice level (Some state) choice = option_map (after_step level.problem.clauses state) (slice_get (alternatives level state) choice)
 
+-- the state after these choices, if each number is an alternative of its place
 abbrev pub state_after : Level → List ℕ → Option State
 state_after level choices = fold (after_choice level) (Some empty) choices

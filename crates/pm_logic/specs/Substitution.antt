@@ -15,6 +15,7 @@ abbrev mutual
   put_among terms no_terms = no_terms
   put_among terms (more_terms t ts) = more_terms (put terms t) (put_among terms ts)
 
+-- the same in each term of a literal
 abbrev pub put_in_literal : List Term → Literal → Literal
 put_in_literal terms literal = record { positive = literal.positive; predicate = literal.predicate; args = map (put terms) literal.args }
 
@@ -25,6 +26,7 @@ pub record IsInstance (clause : Clause) (literals : List Literal) : Type 0 where
   pub count : length terms ≡ clause.vars
   pub each : literals ≡ map (put_in_literal terms) clause.literals
 
+-- and in each literal of a tableau
 abbrev mutual
   pub put_below : List Term → Node → Node
   put_below terms (leaf literal) = leaf (put_in_literal terms literal)

@@ -1,6 +1,6 @@
 //! What the definitions of the calculus mean: each law is what a function without a body ensures.
-ghost use Rattle.pm_logic.specs.Examples.{DepthExample, FiniteTermsExample, ClosedBranchExample, FreeVariableExample};
-ghost use Rattle.pm_logic.specs.Laws.{PrefixesAreReached, ChoicesAreBelowWidths, CompleteListsEnd, CompleteListsGiveTableaux, TableauxFollowCompleteLists, ListsAndTableauxAgree, InstancesCompose, ClauseInstancesCompose, InstancesLabel, RegularityReflects, ClosedTableauxAreRefuted, GeneralTableauxAreInClass};
+ghost use Rattle.pm_logic.specs.Examples.{DepthExample, FiniteTermsExample, LeafExample, ClosedBranchExample, FreeVariableExample};
+ghost use Rattle.pm_logic.specs.Laws.{PrefixesAreReached, ChoicesAreBelowWidths, CompleteListsEnd, CompleteListsGiveTableaux, TableauxFollowCompleteLists, ListsAndTableauxAgree, InstancesCompose, ClauseInstancesCompose, InstancesLabel, RegularityReflects, ClosedTableauxAreRefuted, GeneralTableauxAreInClass, GeneralTableauxAreUnique, FollowedListsAreComplete};
 
 /// Each prefix of a reached list of choices is reached.
 pub fn prefixes_are_reached()
@@ -28,9 +28,19 @@ pub fn general_tableaux_are_in_class()
     ensures { GeneralTableauxAreInClass }
 {}
 
+/// A list of choices has one general tableau at most.
+pub fn general_tableaux_are_unique()
+    ensures { GeneralTableauxAreUnique }
+{}
+
 /// Each tableau of the class follows a list of choices that is complete at the level.
 pub fn tableaux_follow_complete_lists()
     ensures { TableauxFollowCompleteLists }
+{}
+
+/// A list that a tableau of the class follows is complete at the level.
+pub fn followed_lists_are_complete()
+    ensures { FollowedListsAreComplete }
 {}
 
 /// A level has a complete list exactly where its class has a member: a level without one has an empty
@@ -65,7 +75,7 @@ pub fn closed_tableaux_are_refuted()
 {}
 
 /// Over `p(a)`, `~p(X) | p(f(X))` and `~p(f(f(a)))`, the list 0 1 2 2 is complete at depth 4, and not
-/// reached at depth 3.
+/// reached at depth 3, where 0 1 2 has reductions alone.
 pub fn depth_example()
     ensures { DepthExample }
 {}
@@ -75,6 +85,12 @@ pub fn finite_terms_example()
     ensures { FiniteTermsExample }
 {}
 
+/// Over `p(X) | ~p(X)`, `p(a)` and `~p(a)`, the list 0 0 is reached in the plain class and not in the
+/// regular one.
+pub fn leaf_example()
+    ensures { LeafExample }
+{}
+
 /// Over `p(Y) | ~p(Z)`, `p(a)`, `~p(X) | ~t(X)`, `t(a) | ~u` and `u`, the list 0 0 2 0 is reached in the
 /// plain class and not in the regular one, where 0 1 0 1 is complete.
 pub fn closed_branch_example()
@@ -82,7 +98,7 @@ pub fn closed_branch_example()
 {}
 
 /// Over `p(Y) | ~p(Z)`, `p(a)`, `~p(X) | ~t`, `t | ~u` and `u`, the list 0 0 2 0 1 is complete in the
-/// regular class, with `~p(X)` above `~p(a)`.
+/// regular class, and its general tableau has `~p(X)` above `~p(a)`.
 pub fn free_variable_example()
     ensures { FreeVariableExample }
 {}

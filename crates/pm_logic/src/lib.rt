@@ -10,8 +10,9 @@ mod terms;
 pub use laws::{
     choices_are_below_widths, clause_instances_compose, closed_branch_example,
     closed_tableaux_are_refuted, complete_lists_end, complete_lists_give_tableaux, depth_example,
-    finite_terms_example, free_variable_example, general_tableaux_are_in_class, instances_compose,
-    instances_label, lists_and_tableaux_agree, prefixes_are_reached, regularity_reflects,
+    finite_terms_example, followed_lists_are_complete, free_variable_example,
+    general_tableaux_are_in_class, general_tableaux_are_unique, instances_compose, instances_label,
+    leaf_example, lists_and_tableaux_agree, prefixes_are_reached, regularity_reflects,
     tableaux_follow_complete_lists,
 };
 pub use problem::{Class, Clause, Literal, Name, Problem, Start};

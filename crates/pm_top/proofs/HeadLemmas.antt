@@ -1,5 +1,5 @@
 -- The faces and heads of a problem's clauses.
-use Rattle.std.proofs.Common.{◌≡◌, ℕ, Bool, true, false, cond, subst, lit≤, zero, suc, ◌+◌, ◌*◌, ◌<◌, ◌≤◌, ◌∙◌, List, [], ◌∷◌, ◌++◌, length, map, drop, slice_get, Some, refl, sym, ap, arith, append_assoc, length-append}
+use Rattle.std.proofs.Common.{◌≡◌, ℕ, Bool, true, false, cond, subst, zero, suc, ◌+◌, ◌*◌, ◌<◌, ◌≤◌, ◌∙◌, List, [], ◌∷◌, ◌++◌, length, map, drop, slice_get, Some, refl, sym, ap, arith, append_assoc, length-append}
 use Rattle.std.specs.Prelude.{All}
 use Rattle.std.proofs.lemmas.List.Elements.{All-nil, All-cons, All-head, All-tail, All-append, All-filter}
 use Rattle.std.proofs.lemmas.Option.{slice_get_within, get_or_from_slice_get}
@@ -55,15 +55,6 @@ heads-more problem old new i faces lt are added whole =
     ∙ whole
 
 -- ---- how many there are
-few_literals : (symbols : List logic.Symbol) (clauses : List logic.Clause) → All (logic.IsClauseOver symbols) clauses → (i : ℕ)
-    → length (option_map_or faces_of (slice_get clauses i) []) ≤ 255
-few_literals symbols [] all i = lit≤ tt
-few_literals symbols (c ∷ cs) all zero = omega (arith, length-map c.literals face_of, (All-head (logic.IsClauseOver symbols) c cs all).few)
-few_literals symbols (c ∷ cs) all (suc i) = few_literals symbols cs (All-tail (logic.IsClauseOver symbols) c cs all) i
-
-pub few_faces : (problem : logic.Problem) → logic.IsValid problem → (i : ℕ) → length (clause_faces problem i) ≤ 255
-few_faces problem valid i = few_literals problem.symbols problem.clauses valid.clauses i
-
 length-clause_heads : (i : ℕ) (faces : List Face) → length (clause_heads (i, faces)) ≡ length faces
 length-clause_heads i faces =
     length-map (enumerate_from 0 faces) (λ (p : ℕ × Face). record { clause = i; literal = p.0; face = p.1 }) ∙ length-enumerate_from 0 faces

@@ -109,8 +109,8 @@ abbrev pub width_of : Problem → Rule → ℕ → Option State → ℕ
 width_of problem start level state = option_map_or (λ s. length (alternatives problem start level s)) state 0
 
 -- reached where there is a state, complete where nothing is left unclosed
-abbrev pub key : Problem → Rule → ℕ → Key
-key problem start level = record {
+abbrev pub key_of : Problem → Rule → ℕ → Key
+key_of problem start level = record {
   width = λ choices. width_of problem start level (state_after problem start level choices);
   reached = λ choices. IsSome (state_after problem start level choices);
   complete = λ choices. state_after problem start level choices ≡ Some (goals []);

@@ -7,7 +7,7 @@ use Rattle.std.specs.Option.{option_and_then}
 use Rattle.pm_logic.specs.Problem.{Problem}
 use Rattle.pm_logic.specs.declared.problem.Start.{Start as Rule}
 use Rattle.pm_space.specs.Key.{IsKey}
-use Rattle.pm_top.specs.Goals.{State, Step, unstarted, goals, alternatives, after, next_state, state_after, width_of, key}
+use Rattle.pm_top.specs.Goals.{State, Step, unstarted, goals, alternatives, after, next_state, state_after, width_of, key_of}
 
 -- the state after one choice more
 pub state_after-push : (problem : Problem) (start : Rule) (level : ℕ) (choices : List ℕ) (choice : ℕ)
@@ -36,7 +36,7 @@ IsUnstarted None = ⊥
 IsUnstarted (Some unstarted) = Unit {0}
 IsUnstarted (Some (goals gs)) = ⊥
 
-pub key_laws : (problem : Problem) (start : Rule) (level : ℕ) → IsKey (key problem start level)
+pub key_laws : (problem : Problem) (start : Rule) (level : ℕ) → IsKey (key_of problem start level)
 key_laws problem start level = record {
   complete_reached = λ choices complete. ap is_some complete;
   complete_chosen = λ complete. subst IsUnstarted complete tt;
