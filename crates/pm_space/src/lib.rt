@@ -6,6 +6,10 @@ ghost use Rattle.pm_space.specs.Key.{Agree, IsKey, Key};
 
 use std::alloc::{AllocError, Global};
 
+mod toy;
+
+pub use toy::{ToyMaker, ToySpace};
+
 /// A place in a space of choice lists.
 ///
 /// Its meanings are the path (`path`), a reached choice list, and the key (`key`): how many
@@ -68,3 +72,6 @@ pub trait Maker {
         ensures path { IfOk result (λ space. Self.Made.path space ≡ []) }
         ensures key { IfOk result (λ space. Agree (Self.Made.key space) (key_at self.now level)) };
 }
+
+#[cfg(test)]
+mod tests;

@@ -3,7 +3,6 @@ pub mod Loops
 pub mod Tokens
 pub mod Grammar
 pub mod TextLemmas
-pub mod SearchLemmas
 pub mod Numbers
 pub mod Clauses
 pub mod Puts

@@ -7,7 +7,6 @@ pub mod Goals
 pub mod GoalViews
 pub mod KeyLaws
 pub mod Spaces
-pub mod Levels
 pub mod Drawing
 pub mod Status
 pub mod Text

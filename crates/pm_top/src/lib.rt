@@ -10,7 +10,6 @@ mod put;
 mod reader;
 mod run;
 mod scan;
-mod search;
 mod space;
 mod status;
 mod texts;

@@ -12,10 +12,10 @@ use crate::drawing::draw;
 use crate::items::ReadError;
 use crate::put::put_text;
 use crate::reader::read;
-use crate::search::{DeepEnd, deepen};
 use crate::status::Status;
 use crate::texts::{bad_words, gave_up, not_first_form, resource_out, too_long};
 use crate::words::file_to_prove;
+use pm_deepen::{DeepEnd, deepen_alone};
 use pm_logic::{Problem, Start};
 use pm_outside::{FetchFault, Library, Sink};
 use std::alloc::{AllocError, Global};
@@ -90,14 +90,22 @@ fn search(alloc: Global, problem: &Problem) -> Result<Answer, AllocError>
     ensures { IfOk result (λ answer. IsSearchEnd answer.status answer.text.items) }
 {
     let calculus = Calculus::new(alloc, problem, Start::Negative)?;
-    let outcome = deepen(alloc, &&calculus, DEPTH, BUDGET)?;
+    let outcome = deepen_alone(alloc, &&calculus, DEPTH, BUDGET)?;
     let works = outcome.works;
     let (status, text) = match outcome.end {
         DeepEnd::DepthReached => (Status::DepthReached, gave_up(alloc, &works)?),
         DeepEnd::BudgetOut { .. } => (Status::Budget, resource_out(alloc, &works)?),
         DeepEnd::Proof { depth, path, work } => (
             Status::Done,
-            proof_text(alloc, &calculus, problem, depth, &path, &works, work)?,
+            proof_text(
+                alloc,
+                &calculus,
+                problem,
+                depth,
+                path.as_slice(),
+                &works,
+                work,
+            )?,
         ),
     };
     Ok(Answer { status, text })
