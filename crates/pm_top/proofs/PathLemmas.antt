@@ -4,10 +4,10 @@ use Rattle.std.specs.Prelude.{IsSome, is_some}
 use Rattle.std.specs.List.{fold}
 use Rattle.std.specs.Option.{option_to_list}
 use Rattle.std.proofs.lemmas.List.{append-nil, drop_more, same_from_push}
+use Rattle.std.proofs.lemmas.List.Sums.{fold-append}
 use Rattle.pm_logic.specs.Problem.{Problem}
 use Rattle.pm_logic.specs.declared.problem.Start.{Start as Rule}
-use Rattle.pm_top.specs.Goals.{State, next_state, state_after}
-use Rattle.pm_top.specs.KeyLaws.{key_laws}
+use Rattle.pm_top.specs.Goals.{State, unstarted, next_state, state_after}
 use Rattle.pm_top.specs.Spaces.{Frame, frame_of, frames_before}
 
 no_state : (problem : Problem) (start : Rule) (level : ℕ) (choices : List ℕ) → fold (next_state problem start level) None choices ≡ None
@@ -21,6 +21,15 @@ dead_end problem start level state choices i lt none =
     sym (ap (fold (next_state problem start level) state) (drop_more choices i 0 lt)
     ∙ ap (λ next. fold (next_state problem start level) next (drop (i + 1) choices)) (sym none)
     ∙ no_state problem start level (drop (i + 1) choices))
+
+-- the state after one choice more
+state_after-push : (problem : Problem) (start : Rule) (level : ℕ) (choices : List ℕ) (choice : ℕ)
+    → state_after problem start level (choices ++ choice ∷ []) ≡ next_state problem start level (state_after problem start level choices) choice
+state_after-push problem start level choices choice = fold-append (next_state problem start level) (Some unstarted) choices (choice ∷ [])
+
+some_before : (problem : Problem) (start : Rule) (level : ℕ) (state : Option State) (choice : ℕ) → IsSome (next_state problem start level state choice) → IsSome state
+some_before problem start level None choice h = h
+some_before problem start level (Some s) choice h = refl
 
 frames_before-push : (problem : Problem) (start : Rule) (level : ℕ) (before choices : List ℕ) (choice : ℕ)
     → frames_before problem start level before (choices ++ choice ∷ [])
@@ -62,7 +71,8 @@ shorter problem start level path path' choice earlier frames frame last kept is 
     let both = same_from_push frames (frames_before problem start level [] path') frame (frame_of problem start level (state_after problem start level path'))
     (sym popped ∙ kept.earlier_are ∙ ap (frames_before problem start level []) is ∙ frames_before-push problem start level [] path' choice) in
     record {
-      reached = (key_laws problem start level).prefix path' choice (subst (λ ks. IsSome (state_after problem start level ks)) is kept.reached);
+      reached = some_before problem start level (state_after problem start level path') choice
+          (ap is_some (sym (state_after-push problem start level path' choice)) ∙ subst (λ ks. IsSome (state_after problem start level ks)) is kept.reached);
       frame_is = both.1;
       earlier_are = both.0;
     }

@@ -8,7 +8,7 @@ use Rattle.pm_top.specs.JobWords.{file_to_prove}
 use Rattle.pm_top.specs.Run.{these_bytes, HasLearnt}
 
 -- the bytes that a library gave
-pub learnt_bytes : (words : List (List ℕ)) (told : Option Files) (longs_rose : Type 0) (file bytes : List ℕ) → Some file ≡ file_to_prove words → length bytes ≤ MAX_FILE_BYTES
-    → IfSome told (λ files. map.get files file ≡ Some bytes) → HasLearnt words told longs_rose (these_bytes bytes)
-learnt_bytes words told longs_rose file bytes named within given =
+pub learnt_bytes : (words : List (List ℕ)) (told : Option Files) (longs : ℕ × ℕ) (file bytes : List ℕ) → Some file ≡ file_to_prove words → length bytes ≤ MAX_FILE_BYTES
+    → IfSome told (λ files. map.get files file ≡ Some bytes) → HasLearnt words told longs (these_bytes bytes)
+learnt_bytes words told longs file bytes named within given =
     subst (λ (o : Option (List ℕ)). IsSomeAnd o (λ file. (length bytes ≤ MAX_FILE_BYTES) × IfSome told (λ files. map.get files file ≡ Some bytes))) named (within, given)

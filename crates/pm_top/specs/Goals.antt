@@ -1,12 +1,11 @@
--- The choices of the connection calculus, for predicates without arguments: which steps a state
--- offers, and what each step makes of it.
-use Rattle.std.specs.Prelude.{◌≡◌, ℕ, zero, suc, ◌+◌, Bool, false, cond, not, ◌&&◌, ◌||◌, List, [], ◌∷◌, ◌++◌, length, map, filter, Option, Some, None, IsSome, slice_get, nat_lt, ◌==◌}
+-- What the code keeps of a tableau whose predicates have no arguments, and how a step changes it: only the
+-- unclosed leaves, each with the faces above it.
+use Rattle.std.specs.Prelude.{ℕ, zero, suc, ◌+◌, Bool, false, cond, not, ◌&&◌, ◌||◌, List, [], ◌∷◌, ◌++◌, length, map, filter, Option, Some, None, slice_get, nat_lt, ◌==◌}
 use Rattle.std.specs.Bool.{beq}
 use Rattle.std.specs.List.{enumerate_from, flat_map, fold, remove}
 use Rattle.std.specs.Option.{option_map_or, option_and_then}
 use Rattle.pm_logic.specs.Problem.{Literal, Clause, Problem, start_clauses}
 use Rattle.pm_logic.specs.declared.problem.Start.{Start as Rule}
-use Rattle.pm_space.specs.Key.{Key}
 pub use Rattle.pm_top.specs.declared.calculus.Face.{Face}
 pub use Rattle.pm_top.specs.declared.calculus.Head.{Head}
 pub use Rattle.pm_top.specs.declared.calculus.Step.{Step}
@@ -107,11 +106,3 @@ steps_from problem start level state (choice ∷ choices) =
 
 abbrev pub width_of : Problem → Rule → ℕ → Option State → ℕ
 width_of problem start level state = option_map_or (λ s. length (alternatives problem start level s)) state 0
-
--- reached where there is a state, complete where nothing is left unclosed
-abbrev pub key_of : Problem → Rule → ℕ → Key
-key_of problem start level = record {
-  width = λ choices. width_of problem start level (state_after problem start level choices);
-  reached = λ choices. IsSome (state_after problem start level choices);
-  complete = λ choices. state_after problem start level choices ≡ Some (goals []);
-}

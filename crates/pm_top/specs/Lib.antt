@@ -7,8 +7,10 @@ pub mod Goals
 pub mod GoalViews
 pub mod KeyLaws
 pub mod Spaces
+pub mod Drawn
 pub mod Drawing
 pub mod Status
 pub mod Text
+pub mod Certificate
 pub mod JobWords
 pub mod Run

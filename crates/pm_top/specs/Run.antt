@@ -1,7 +1,16 @@
 -- What a run learns of its file, what it prints, and what each of its ends says.
-use Rattle.std.specs.Prelude.{◌≡◌, ℕ, ◌<◌, ◌≤◌, List, length, Option, None, Some, IsNone, IfSome, IsSomeAnd}
+use Rattle.std.specs.Prelude.{◌≡◌, ℕ, ◌<◌, ◌≤◌, List, [], length, Option, None, Some, IsNone, IfSome, IsSomeAnd}
 use Rattle.std.specs.FinMap as map
-use Rattle.pm_outside.specs.Outside.{Files, Appends, AppendsPrefix}
+use Rattle.pm_logic.specs.declared.problem.Class.TheVariants.{Plain}
+use Rattle.pm_logic.specs.declared.problem.Start.TheVariants.{Negative}
+use Rattle.pm_logic.specs.Problem.{Problem}
+use Rattle.pm_logic.specs.Tableau.{Tableau, depth}
+use Rattle.pm_logic.specs.Connection.{Level, IsInClass}
+use Rattle.pm_logic.specs.Truth.{Atom, HasFalseInstance}
+use Rattle.pm_outside.specs.Outside.{Files, Rose, Appends, AppendsPrefix}
+use Rattle.pm_deepen.specs.declared.DeepEnd.{DeepEnd}
+use Rattle.pm_deepen.specs.declared.DeepEnd.TheVariants.{Proof, DepthReached, BudgetOut}
+use Rattle.pm_deepen.specs.Levels.{Options, level_at, IsAnswerOf}
 use Rattle.pm_top.specs.declared.run.TheConstants.{MAX_FILE_BYTES}
 use Rattle.pm_top.specs.declared.run.Fault.{Fault}
 use Rattle.pm_top.specs.declared.run.Fault.TheVariants.{Missing, ReadFault, NoMemory}
@@ -9,7 +18,9 @@ use Rattle.pm_top.specs.declared.status.Status.{Status}
 use Rattle.pm_top.specs.declared.status.Status.TheVariants as ends
 use Rattle.pm_top.specs.JobWords.{file_to_prove}
 use Rattle.pm_top.specs.FirstForm.{IsFirstForm}
-use Rattle.pm_top.specs.Text.{gave_up, resource_out, bad_words, not_in_the_first_form, too_long, IsProofText}
+use Rattle.pm_top.specs.Numbering.{IsProblemIn}
+use Rattle.pm_top.specs.Text.{gave_up, resource_out, bad_words, not_in_the_first_form, too_long}
+use Rattle.pm_top.specs.Certificate.{proof_text}
 
 -- what a run learns of its file: the words name none, these are its bytes, or it is over the limit
 pub data Fetched : Type 0 where
@@ -18,25 +29,57 @@ pub data Fetched : Type 0 where
   over_limit : Fetched
 
 -- It learnt this of the words and, where the library tells its files, of the file; and it learns that a
--- file is over the limit only where the library's count of such files rose.
-abbrev pub HasLearnt : List (List ℕ) → Option Files → Type 0 → Fetched → Type 0
-HasLearnt words told longs_rose no_file = IsNone (file_to_prove words)
-HasLearnt words told longs_rose (these_bytes bytes) = IsSomeAnd (file_to_prove words) (λ file. (length bytes ≤ MAX_FILE_BYTES) × IfSome told (λ files. map.get files file ≡ Some bytes))
-HasLearnt words told longs_rose over_limit = longs_rose × IsSomeAnd (file_to_prove words) (λ file. IfSome told (λ files. IsSomeAnd (map.get files file) (λ bytes. MAX_FILE_BYTES < length bytes)))
+-- file is over the limit only where the library's count of such files rose. (Its values before and after
+-- the run are `longs`.)
+abbrev pub HasLearnt : List (List ℕ) → Option Files → ℕ × ℕ → Fetched → Type 0
+HasLearnt words told longs no_file = IsNone (file_to_prove words)
+HasLearnt words told longs (these_bytes bytes) = IsSomeAnd (file_to_prove words) (λ file. (length bytes ≤ MAX_FILE_BYTES) × IfSome told (λ files. map.get files file ≡ Some bytes))
+HasLearnt words told longs over_limit = Rose longs.0 longs.1 × IsSomeAnd (file_to_prove words) (λ file. IfSome told (λ files. IsSomeAnd (map.get files file) (λ bytes. MAX_FILE_BYTES < length bytes)))
 
--- The status and text with which the search of a problem ends. (Which of these ends it is, and with
--- which numbers, is not said here.)
-abbrev pub IsSearchEnd : Status → List ℕ → Type 0
-IsSearchEnd ends.DepthReached text = (works : List ℕ) × (length works ≡ 31) × (text ≡ gave_up works)
-IsSearchEnd ends.Budget text = (works : List ℕ) × (length works ≤ 30) × (text ≡ resource_out works)
-IsSearchEnd ends.Done text = IsProofText text
-IsSearchEnd status text = ⊥
+-- what a problem is searched with
+abbrev pub standard : Options
+standard = record { class = Plain; start = Negative; depth = 30; budget = 1000000 }
+
+-- the level of this depth
+abbrev pub level_of : Problem → ℕ → Level
+level_of problem at_depth = level_at problem standard at_depth
+
+abbrev pub status_of : DeepEnd → Status
+status_of (Proof level path work) = ends.Done
+status_of DepthReached = ends.DepthReached
+status_of (BudgetOut level) = ends.Budget
+
+-- a tableau goes with a proof alone
+abbrev pub text_of : Problem → List ℕ → DeepEnd → Option Tableau → List ℕ
+text_of problem works (Proof level path work) (Some tableau) = proof_text problem.symbols tableau works work
+text_of problem works (Proof level path work) None = []
+text_of problem works DepthReached tableau = gave_up works
+text_of problem works (BudgetOut level) tableau = resource_out works
+
+-- The tableau proves the problem unsatisfiable at this depth: it is a closed connection tableau of the
+-- class, it is as deep as that, and under each truth assignment some clause instance of it is false.
+pub record IsProofAt (problem : Problem) (level : ℕ) (tableau : Tableau) : Type 0 where
+  pub member : IsInClass (level_of problem level) tableau
+  pub deep : depth tableau ≡ level
+  pub refuted : (atoms : List Atom) → HasFalseInstance problem.clauses tableau atoms
+
+-- The search of a problem ends so: status and text are those of its answer. No level that is printed as
+-- exhausted has a closed connection tableau, and a tableau that is printed is a proof at the next level.
+pub record EndsSearch (problem : Problem) (status : Status) (text : List ℕ) : Type 0 where
+  pub works : List ℕ
+  pub end : DeepEnd
+  pub tableau : Option Tableau
+  pub answer : IsAnswerOf problem standard works end tableau
+  pub status_is : status ≡ status_of end
+  pub text_is : text ≡ text_of problem works end tableau
+  pub exhausted : (level : ℕ) → level < length works → (member : Tableau) → IsInClass (level_of problem level) member → ⊥
+  pub proved : IfSome tableau (IsProofAt problem (length works))
 
 -- The status and text with which a run over these bytes ends: they are refused exactly where they
 -- aren't in the first form.
-abbrev pub EndsSearch : List ℕ → Status → List ℕ → Type 0
-EndsSearch bytes ends.BadInput text = (¬ IsFirstForm bytes) × (text ≡ not_in_the_first_form)
-EndsSearch bytes status text = IsFirstForm bytes × IsSearchEnd status text
+abbrev pub EndsRun : List ℕ → Status → List ℕ → Type 0
+EndsRun bytes ends.BadInput text = (¬ IsFirstForm bytes) × (text ≡ not_in_the_first_form)
+EndsRun bytes status text = (problem : Problem) × IsProblemIn bytes problem × EndsSearch problem status text
 
 -- the status and text of what was learnt
 abbrev pub IsOutput : Fetched → Status → List ℕ → Type 0
@@ -44,22 +87,22 @@ IsOutput no_file ends.BadWords text = text ≡ bad_words
 IsOutput no_file status text = ⊥
 IsOutput over_limit ends.BadInput text = text ≡ too_long 1
 IsOutput over_limit status text = ⊥
-IsOutput (these_bytes bytes) status text = EndsSearch bytes status text
+IsOutput (these_bytes bytes) status text = EndsRun bytes status text
 
 -- a run's output: what it learnt, and the status and the text of that
-pub record Output (words : List (List ℕ)) (told : Option Files) (longs_rose : Type 0) (status : Status) (text : List ℕ) : Type 0 where
+pub record Output (words : List (List ℕ)) (told : Option Files) (longs : ℕ × ℕ) (status : Status) (text : List ℕ) : Type 0 where
   pub fetched : Fetched
-  pub learnt : HasLearnt words told longs_rose fetched
+  pub learnt : HasLearnt words told longs fetched
   pub output : IsOutput fetched status text
 
 -- What has been written where a run ends so: nothing on a fault of reading and on want of memory, a
 -- prefix of some output's text where the sink failed, and else the text of the output of this status.
-abbrev pub HasWritten : List (List ℕ) → Option Files → Type 0 → Option (List ℕ) → Option (List ℕ) → Status → Type 0
-HasWritten words told longs_rose old new ends.Missing = new ≡ old
-HasWritten words told longs_rose old new ends.ReadFault = new ≡ old
-HasWritten words told longs_rose old new ends.NoMemory = new ≡ old
-HasWritten words told longs_rose old new ends.WriteFault = (status : Status) × (text : List ℕ) × Output words told longs_rose status text × AppendsPrefix old new text
-HasWritten words told longs_rose old new status = (text : List ℕ) × Output words told longs_rose status text × Appends old new text
+abbrev pub HasWritten : List (List ℕ) → Option Files → ℕ × ℕ → Option (List ℕ) → Option (List ℕ) → Status → Type 0
+HasWritten words told longs old new ends.Missing = new ≡ old
+HasWritten words told longs old new ends.ReadFault = new ≡ old
+HasWritten words told longs old new ends.NoMemory = new ≡ old
+HasWritten words told longs old new ends.WriteFault = (status : Status) × (text : List ℕ) × Output words told longs status text × AppendsPrefix old new text
+HasWritten words told longs old new status = (text : List ℕ) × Output words told longs status text × Appends old new text
 
 -- the file that the words name isn't among the told ones
 abbrev pub IsMissing : List (List ℕ) → Option Files → Type 0
@@ -70,3 +113,9 @@ abbrev pub fault_status : Fault → Status
 fault_status Missing = ends.Missing
 fault_status ReadFault = ends.ReadFault
 fault_status NoMemory = ends.NoMemory
+
+-- words and files determine the status and the text
+abbrev pub OutputIsDetermined : Type 0
+OutputIsDetermined =
+    (words : List (List ℕ)) (files : Files) (longs longs_then : ℕ × ℕ) (status other : Status) (text second : List ℕ)
+    → Output words (Some files) longs status text → Output words (Some files) longs_then other second → (status ≡ other) × (text ≡ second)

@@ -1,5 +1,5 @@
 -- The texts that a run prints.
-use Rattle.std.specs.Prelude.{◌≡◌, ℕ, ◌+◌, List, [], ◌∷◌, ◌++◌, length, codes, decimal}
+use Rattle.std.specs.Prelude.{ℕ, ◌+◌, List, [], ◌∷◌, ◌++◌, length, codes, decimal}
 
 -- level d exhausted attempts N
 abbrev pub level_line : ℕ → ℕ → List ℕ
@@ -31,7 +31,3 @@ not_in_the_first_form = codes "% SZS status InputError\nnot in the first form\n"
 -- the file of this place in the words is over its limit
 abbrev pub too_long : ℕ → List ℕ
 too_long file = codes "% SZS status InputError\nfile " ++ decimal file ++ codes " TooLong\n"
-
--- the text of a run that found a proof begins with its status
-abbrev pub IsProofText : List ℕ → Type 0
-IsProofText text = (rest : List ℕ) × (text ≡ codes "% SZS status Unsatisfiable\n" ++ rest)

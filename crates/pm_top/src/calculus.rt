@@ -4,9 +4,11 @@
 ghost use Rattle.std.specs.Prelude.{◌≡◌, ℕ, ◌+◌, ◌<◌, ◌≤◌, ◌++◌, ◌∷◌, [], IfOk, IfSome, OnOk, ◌*◌, ◌^◌, List, length, map, slice_get};
 ghost use Rattle.std.specs.Option.{option_map};
 ghost use Rattle.pm_logic.specs.Problem.{start_clauses};
+ghost use Rattle.pm_top.specs.Drawn.{HasNoArguments};
 ghost use Rattle.pm_top.specs.Goals.{alternatives, are_opposite, clause_faces, clause_heads, extensions, heads_of, opposite_heads, reductions};
 
-use pm_logic::{Literal, Problem, Start};
+use crate::drawing::draw;
+use pm_logic::{Literal, Problem, Start, Tableau};
 use std::alloc::{AllocError, Global};
 
 /// What of a literal decides whether it can be closed by another: its sign and its predicate.
@@ -84,6 +86,7 @@ pub struct Calculus<'p> {
     start: Start,
     starts: Vec<u32>,
     heads: Vec<Head>,
+    ghost bare: { HasNoArguments problem.now },
     ghost starts_are: { starts.items ≡ start_clauses start problem.now.clauses },
     ghost heads_are: { heads.items ≡ heads_of problem.now },
     ghost few_starts: { length starts.items ≤ 65536 },
@@ -171,15 +174,17 @@ impl State {
 impl<'p> Calculus<'p> {
     ghost use Rattle.pm_top.specs.Goals.{after, next_state, state_after, steps_from};
     ghost use Rattle.pm_top.specs.Goals as spec;
-    ghost use Rattle.pm_top.specs.Spaces.{frame_of};
+    ghost use Rattle.pm_logic.specs.Choices.{IsComplete, IsGeneral};
+    ghost use Rattle.pm_top.specs.Spaces.{frame_of, plain_level};
     ghost use Rattle.pm_top.specs.GoalViews.{Allows, goal_of, state_of};
 
-    /// The calculus of a problem with a start rule.
+    /// The calculus of a problem whose predicates have no arguments, with a start rule.
     pub fn new(
         alloc: Global,
         problem: &'p Problem,
         start: Start,
     ) -> Result<Calculus<'p>, AllocError>
+        requires { HasNoArguments problem.now }
         ensures problem { IfOk result (λ calculus. calculus.problem.now ≡ problem.now) }
         ensures start { IfOk result (λ calculus. calculus.start ≡ start) }
     {
@@ -191,6 +196,13 @@ impl<'p> Calculus<'p> {
             starts,
             heads,
         })
+    }
+
+    /// The problem.
+    pub fn problem(&self) -> &'p Problem
+        ensures { result.now ≡ self.now.problem.now }
+    {
+        self.problem
     }
 
     /// The number of alternatives after a state.
@@ -423,6 +435,27 @@ impl<'p> Calculus<'p> {
             state = next;
         }
         Ok(steps)
+    }
+
+    /// The general tableau of a list that is complete at a level.
+    pub fn general_tableau(
+        &self,
+        alloc: Global,
+        level: u32,
+        choices: &[u32],
+    ) -> Result<Tableau, AllocError>
+        requires level { level ≤ 250 }
+        requires complete { IsComplete (plain_level self.now.problem.now self.now.start level) choices.now }
+        ensures { IfOk result (λ tableau. IsGeneral (plain_level self.now.problem.now self.now.start level) choices.now tableau.tableau) }
+    {
+        let steps = self.steps(alloc, level, choices)?;
+        let Some(first) = steps.first() else {
+            unreachable!()
+        };
+        let Step::Start { clause } = *first else {
+            unreachable!()
+        };
+        draw(alloc, self.problem, clause, &steps[1..])
     }
 }
 

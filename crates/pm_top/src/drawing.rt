@@ -1,7 +1,10 @@
 //! The tableau that steps build.
-ghost use Rattle.std.specs.Prelude.{◌≡◌, ◌+◌, ◌<◌, ◌≤◌, [], OnOk, OnErr, IfOk, IfSome, MatchOption, length, reverse};
-ghost use Rattle.pm_logic.specs.Tableau.{preorder, deepest_next, deepest_after};
-ghost use Rattle.pm_top.specs.Drawing.{AreNested};
+ghost use Rattle.std.specs.Prelude.{◌≡◌, ◌<◌, ◌≤◌, ◌++◌, ◌∷◌, [], All, false, OnOk, IfOk, MatchOption, option_to_list, length, map, reverse};
+ghost use Rattle.std.specs.List.{enumerate_from};
+ghost use Rattle.pm_logic.specs.declared.tableau.NodeKind.{NodeKind};
+ghost use Rattle.pm_logic.specs.Tableau.{preorder, deepest_next, depth};
+ghost use Rattle.pm_top.specs.Drawn.{HasNoArguments, NamesClause, drawn, built};
+ghost use Rattle.pm_top.specs.Drawing.{AreNested, DrewClosed, entry_as, pending_at};
 
 use crate::calculus::{Face, Step};
 use pm_logic::{Literal, Node, NodeKind, Problem, Tableau, TermTable};
@@ -25,7 +28,8 @@ fn draw_node(
 ) -> Result<(), AllocError>
     requires below_root { 1 ≤ pending.depth }
     requires shallow { pending.depth ≤ deepest_next (preorder tableau.old.tableau) }
-    ensures { OnOk result (deepest_next (preorder tableau.new.tableau) ≡ deepest_after kind pending.depth) }
+    ensures node { OnOk result (preorder tableau.new.tableau ≡ preorder tableau.old.tableau ++ entry_as kind pending ∷ []) }
+    ensures root { tableau.new.tableau.root ≡ tableau.old.tableau.root }
 {
     tableau.add(Node {
         depth: pending.depth,
@@ -45,7 +49,10 @@ fn next_open(
     pending: &mut Vec<Pending>,
 ) -> Result<Option<Pending>, AllocError>
     requires { AreNested (deepest_next (preorder tableau.old.tableau)) (reverse pending.old.items) }
-    ensures next { IfOk result (λ next. IfSome next (λ p. (1 ≤ p.depth) × (p.depth ≤ deepest_next (preorder tableau.new.tableau)) × AreNested p.depth (reverse pending.new.items))) }
+    ensures drew { IfOk result (λ next. DrewClosed (reverse pending.old.items) (option_to_list next ++ reverse pending.new.items) (preorder tableau.old.tableau) (preorder tableau.new.tableau)) }
+    ensures open { IfOk result (λ next. MatchOption next (pending.new.items ≡ []) (λ p. p.closed ≡ false)) }
+    ensures nested { IfOk result (λ next. AreNested (deepest_next (preorder tableau.new.tableau)) (option_to_list next ++ reverse pending.new.items)) }
+    ensures root { tableau.new.tableau.root ≡ tableau.old.tableau.root }
 {
     'leaves: while let Some(next) = pending.pop() {
         if !next.closed {
@@ -56,72 +63,96 @@ fn next_open(
     Ok(None)
 }
 
-/// Puts the literals of a clause before the pending ones, the first of them next. The literal of index
-/// `closed` is closed by its parent.
-fn push_literals(
-    pending: &mut Vec<Pending>,
+/// Draws the pending literals as leaves.
+fn draw_leaves(
+    alloc: Global,
+    tableau: &mut Tableau,
+    mut pending: Vec<Pending>,
+) -> Result<(), AllocError>
+    requires { AreNested (deepest_next (preorder tableau.old.tableau)) (reverse pending.items) }
+    ensures leaves { OnOk result (preorder tableau.new.tableau ≡ preorder tableau.old.tableau ++ map (entry_as NodeKind.Leaf) (reverse pending.items)) }
+    ensures root { tableau.new.tableau.root ≡ tableau.old.tableau.root }
+{
+    'leaves: while let Some(leaf) = pending.pop() {
+        draw_node(alloc, tableau, leaf, NodeKind::Leaf)?;
+    }
+    Ok(())
+}
+
+/// The literals of a clause, to be drawn at this depth. The one of index `closed` is closed by its parent.
+fn pending_literals(
+    alloc: Global,
     literals: &[Literal],
     depth: u32,
     closed: Option<usize>,
-) -> Result<(), AllocError>
-    requires nested { AreNested depth (reverse pending.old.items) }
-    requires below_root { 1 ≤ depth }
-    ensures { OnOk result (AreNested depth (reverse pending.new.items)) }
+) -> Result<Vec<Pending>, AllocError>
+    ensures { IfOk result (λ pending. pending.items ≡ map (pending_at depth closed) (enumerate_from 0 literals.now)) }
 {
-    for (i, literal) in literals.iter().enumerate().rev() {
+    let mut pending = Vec::new(alloc);
+    for (i, literal) in literals.iter().enumerate() {
         pending.push(Pending {
             depth,
             face: Face::of(literal),
             closed: closed == Some(i),
         })?;
     }
-    Ok(())
+    Ok(pending)
 }
 
-/// The literals of a clause; none where there is no such clause.
-fn literals_of(problem: &Problem, clause: u32) -> &[Literal] {
-    if clause < problem.clauses() {
-        &problem.clause(clause).literals
-    } else {
-        &[]
-    }
+/// Puts the literals of a clause before the pending ones, the first of them next.
+fn push_literals(
+    alloc: Global,
+    pending: &mut Vec<Pending>,
+    literals: &[Literal],
+    depth: u32,
+    closed: Option<usize>,
+) -> Result<(), AllocError>
+    ensures { OnOk result (reverse pending.new.items ≡ map (pending_at depth closed) (enumerate_from 0 literals.now) ++ reverse pending.old.items) }
+{
+    let mut children = pending_literals(alloc, literals, depth, closed)?;
+    children.reverse();
+    pending.append(&mut children)
 }
 
-/// The tableau that steps build from an empty one, its nodes in pre-order. Each step but the first is
-/// for the selected leaf, so in pre-order the steps come in their own order.
-pub fn draw(alloc: Global, problem: &Problem, steps: &[Step]) -> Result<Tableau, AllocError> {
-    let root = match steps {
-        [Step::Start { clause }, ..] => *clause,
-        _ => 0,
-    };
+/// The tableau that the start with the clause of index `root` and then these steps build. Each step is
+/// for the selected leaf, the first unclosed one in pre-order, so in pre-order the steps come in their own
+/// order. A start among them changes nothing, nor does a step after the last leaf was closed. The steps
+/// name clauses of the problem, and no branch of the tableau has more than 250 literals.
+pub fn draw(
+    alloc: Global,
+    problem: &Problem,
+    root: u32,
+    steps: &[Step],
+) -> Result<Tableau, AllocError>
+    requires bare { HasNoArguments problem.now }
+    requires root { root < length problem.now.clauses }
+    requires clauses { All (NamesClause (length problem.now.clauses)) steps.now }
+    requires shallow { depth (drawn problem.now.clauses (built problem.now.clauses root steps.now)) ≤ 250 }
+    ensures { IfOk result (λ tableau. tableau.tableau ≡ drawn problem.now.clauses (built problem.now.clauses root steps.now)) }
+{
     let mut tableau = Tableau::new(alloc, TermTable::new(alloc), root);
     let mut pending = Vec::new(alloc);
-    push_literals(&mut pending, literals_of(problem, root), 1, None)?;
+    push_literals(alloc, &mut pending, &problem.clause(root).literals, 1, None)?;
     'steps: for step in steps {
-        let (clause, literal) = match step {
+        match *step {
             Step::Start { .. } => continue,
-            Step::Extend { clause, literal } => (*clause, *literal),
             Step::Reduce { .. } => {
                 let Some(leaf) = next_open(alloc, &mut tableau, &mut pending)? else {
-                    return Ok(tableau);
+                    continue;
                 };
                 draw_node(alloc, &mut tableau, leaf, NodeKind::Leaf)?;
-                continue;
             }
-        };
-        let Some(node) = next_open(alloc, &mut tableau, &mut pending)? else {
-            return Ok(tableau);
-        };
-        draw_node(alloc, &mut tableau, node, NodeKind::Inner { clause })?;
-        // No level is deeper than 250.
-        let depth = node.depth.saturating_add(1);
-        push_literals(
-            &mut pending,
-            literals_of(problem, clause),
-            depth,
-            Some(literal as usize),
-        )?;
+            Step::Extend { clause, literal } => {
+                let Some(node) = next_open(alloc, &mut tableau, &mut pending)? else {
+                    continue;
+                };
+                draw_node(alloc, &mut tableau, node, NodeKind::Inner { clause })?;
+                let children = &problem.clause(clause).literals;
+                let closed = Some(literal as usize);
+                push_literals(alloc, &mut pending, children, node.depth + 1, closed)?;
+            }
+        }
     }
-    next_open(alloc, &mut tableau, &mut pending)?;
+    draw_leaves(alloc, &mut tableau, pending)?;
     Ok(tableau)
 }

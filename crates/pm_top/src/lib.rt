@@ -16,7 +16,7 @@ mod texts;
 mod token;
 mod words;
 
-pub use run::run_alone;
+pub use run::{output_is_determined, run_alone};
 pub use status::Status;
 
 #[cfg(test)]

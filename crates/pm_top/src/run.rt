@@ -3,19 +3,22 @@ ghost use Rattle.std.specs.Prelude.{◌≡◌, ℕ, ◌<◌, ◌≤◌, Option, 
 ghost use Rattle.std.specs.FinMap as files;
 ghost use Rattle.pm_outside.specs.Outside.{Rose};
 ghost use Rattle.pm_top.specs.JobWords.{file_to_prove};
-ghost use Rattle.pm_top.specs.Run.{Output, HasWritten, EndsSearch, IsSearchEnd, IsMissing, fault_status};
-ghost use Rattle.pm_top.specs.Text.{IsProofText};
+ghost use Rattle.pm_logic.specs.Tableau.{Tableau};
+ghost use Rattle.pm_logic.specs.Choices.{IsComplete, IsGeneral};
+ghost use Rattle.pm_top.specs.Certificate.{proof_text};
+ghost use Rattle.pm_top.specs.Drawn.{HasNoArguments};
+ghost use Rattle.pm_top.specs.Spaces.{plain_level};
+ghost use Rattle.pm_top.specs.Run.{Output, OutputIsDetermined, HasWritten, EndsRun, EndsSearch, IsMissing, fault_status};
 
 use crate::calculus::Calculus;
 use crate::certificate::proof;
-use crate::drawing::draw;
 use crate::items::ReadError;
 use crate::put::put_text;
 use crate::reader::read;
 use crate::status::Status;
 use crate::texts::{bad_words, gave_up, not_first_form, resource_out, too_long};
 use crate::words::file_to_prove;
-use pm_deepen::{DeepEnd, deepen_alone};
+use pm_deepen::{DeepEnd, Outcome, deepen_alone};
 use pm_logic::{Problem, Start};
 use pm_outside::{FetchFault, Library, Sink};
 use std::alloc::{AllocError, Global};
@@ -67,53 +70,50 @@ impl Fault {
     }
 }
 
-/// The text for a search that found this list at a level, after the exhausted ones.
-fn proof_text(
+/// The text for a search that found this complete list at a level, after the exhausted ones: the list's
+/// general tableau as a certificate.
+fn found_text(
     alloc: Global,
     calculus: &Calculus<'_>,
-    problem: &Problem,
     level: u32,
     path: &[u32],
     works: &[u64],
     work: u64,
 ) -> Result<Vec<u8>, AllocError>
-    requires { level ≤ 250 }
-    ensures { IfOk result (λ text. IsProofText text.items) }
+    requires level { level ≤ 250 }
+    requires complete { IsComplete (plain_level calculus.now.problem.now calculus.now.start level) path.now }
+    ensures { IfOk result (λ text. (tableau : Tableau) × IsGeneral (plain_level calculus.now.problem.now calculus.now.start level) path.now tableau × (text.items ≡ proof_text calculus.now.problem.now.symbols tableau works.now work)) }
 {
-    let steps = calculus.steps(alloc, level, path)?;
-    let tableau = draw(alloc, problem, &steps)?;
-    proof(alloc, problem, &tableau, works, work)
+    let tableau = calculus.general_tableau(alloc, level, path)?;
+    proof(alloc, calculus.problem(), &tableau, works, work)
 }
 
-/// Searches the tableaux of a problem, level by level.
+/// Searches the tableaux of a problem whose predicates have no arguments, level by level.
 fn search(alloc: Global, problem: &Problem) -> Result<Answer, AllocError>
-    ensures { IfOk result (λ answer. IsSearchEnd answer.status answer.text.items) }
+    requires { HasNoArguments problem.now }
+    ensures { IfOk result (λ answer. EndsSearch problem.now answer.status answer.text.items) }
 {
     let calculus = Calculus::new(alloc, problem, Start::Negative)?;
-    let outcome = deepen_alone(alloc, &&calculus, DEPTH, BUDGET)?;
-    let works = outcome.works;
-    let (status, text) = match outcome.end {
-        DeepEnd::DepthReached => (Status::DepthReached, gave_up(alloc, &works)?),
-        DeepEnd::BudgetOut { .. } => (Status::Budget, resource_out(alloc, &works)?),
-        DeepEnd::Proof { depth, path, work } => (
-            Status::Done,
-            proof_text(
-                alloc,
-                &calculus,
-                problem,
-                depth,
-                path.as_slice(),
-                &works,
-                work,
-            )?,
-        ),
-    };
-    Ok(Answer { status, text })
+    let Outcome { works, end } = deepen_alone(alloc, &&calculus, DEPTH, BUDGET)?;
+    match end {
+        DeepEnd::DepthReached => Ok(Answer {
+            status: Status::DepthReached,
+            text: gave_up(alloc, &works)?,
+        }),
+        DeepEnd::BudgetOut { .. } => Ok(Answer {
+            status: Status::Budget,
+            text: resource_out(alloc, &works)?,
+        }),
+        DeepEnd::Proof { depth, path, work } => Ok(Answer {
+            status: Status::Done,
+            text: found_text(alloc, &calculus, depth, path.as_slice(), &works, work)?,
+        }),
+    }
 }
 
 /// Does the job for a file of these bytes.
 fn prove(alloc: Global, bytes: &[u8]) -> Result<Answer, AllocError>
-    ensures { IfOk result (λ answer. EndsSearch bytes.now answer.status answer.text.items) }
+    ensures { IfOk result (λ answer. EndsRun bytes.now answer.status answer.text.items) }
 {
     match read(alloc, bytes) {
         Ok(problem) => search(alloc, &problem),
@@ -131,7 +131,7 @@ fn answer_words<L: Library>(
     words: &[String],
     library: &mut L,
 ) -> Result<Answer, Fault>
-    ensures output { IfOk result (λ answer. Output (map string_bytes words.now) (L.told library.old) (Rose (L.longs library.old) (L.longs library.new)) answer.status answer.text.items) }
+    ensures output { IfOk result (λ answer. Output (map string_bytes words.now) (L.told library.old) (L.longs library.old, L.longs library.new) answer.status answer.text.items) }
     ensures unasked { IsNone (file_to_prove (map string_bytes words.now)) → library.new ≡ library.old }
     ensures missing { IsErrOf result Fault.Missing → Rose (L.misses library.old) (L.misses library.new) × IsMissing (map string_bytes words.now) (L.told library.old) }
     ensures read_fault { IsErrOf result Fault.ReadFault → Rose (L.faults library.old) (L.faults library.new) }
@@ -155,6 +155,12 @@ fn answer_words<L: Library>(
 }
 
 /// Does the job that the words ask for, with one worker. It always returns.
+///
+/// The job is `prove FILE`, over clauses whose predicates have no arguments. Levels 0 to 30 are searched in
+/// order for closed connection tableaux of the class `plain` with a negative start clause; level d is the
+/// search of those of depth at most d, with at most 1,000,000 attempts. Nothing is written on `Missing`,
+/// `ReadFault` and `NoMemory`, and a prefix of the output's text on `WriteFault`; on every other status the
+/// whole text. Want of memory alone has no cause that a clause names.
 pub fn run_alone<L: Library, S: Sink>(
     alloc: Global,
     words: &[String],
@@ -169,8 +175,12 @@ pub fn run_alone<L: Library, S: Sink>(
     ensures read_fault { result ≡ Status.ReadFault → Rose (L.faults library.old) (L.faults library.new) }
     ensures write_fault { result ≡ Status.WriteFault → Rose (S.faults sink.old) (S.faults sink.new) }
 
-    // What is written is the text of the output, with its status.
-    ensures written { HasWritten (map string_bytes words.now) (L.told library.old) (Rose (L.longs library.old) (L.longs library.new)) (S.written sink.old) (S.written sink.new) result }
+    // What is written is the text of the output, with its status. A level is printed as exhausted only with
+    // its number of attempts, and only if no closed connection tableau has at most its depth. A proof is
+    // printed only as such a tableau of the least depth. The depth is reached exactly where each level is
+    // exhausted within the budget; the budget ends a run exactly where a level needs more attempts and no
+    // lower one has a tableau; the bytes are refused exactly where they aren't in the first form.
+    ensures written { HasWritten (map string_bytes words.now) (L.told library.old) (L.longs library.old, L.longs library.new) (S.written sink.old) (S.written sink.new) result }
 {
     match answer_words(alloc, words, library) {
         Ok(Answer { status, text }) => match put_text(sink, &text) {
@@ -180,3 +190,8 @@ pub fn run_alone<L: Library, S: Sink>(
         Err(fault) => fault.status(),
     }
 }
+
+/// The words and the files that a library tells determine the status and the text of a run's output.
+pub fn output_is_determined()
+    ensures { OutputIsDetermined }
+{}

@@ -1,9 +1,12 @@
-//! The space of choice lists of the connection calculus at a level.
+//! The space of choice lists of the connection calculus at a level, for clauses whose predicates have no
+//! arguments.
 
 ghost use Rattle.std.specs.Prelude.{◌≡◌, ℕ, ◌≤◌, All, length, List, [], ◌∷◌, ◌++◌, is_ok, if◌then◌else◌, IfOk, IsSome};
 ghost use Rattle.pm_space.specs.Key.{Key};
-ghost use Rattle.pm_top.specs.Goals.{key_of, state_after};
-ghost use Rattle.pm_top.specs.Spaces.{Frame, frame_of, frames_before};
+ghost use Rattle.pm_deepen.specs.Levels.{key_of};
+ghost use Rattle.pm_top.specs.Drawn.{HasNoArguments};
+ghost use Rattle.pm_top.specs.Goals.{state_after};
+ghost use Rattle.pm_top.specs.Spaces.{Frame, frame_of, frames_before, plain_level};
 
 use crate::calculus::{Calculus, Frame, State};
 use pm_space::{Maker, Space};
@@ -26,11 +29,11 @@ pub struct ClauseSpace<'m, 'p> {
 }
 
 impl<'m, 'p> Space for ClauseSpace<'m, 'p> {
-    ghost use Rattle.pm_top.specs.KeyLaws.{key_laws};
+    ghost use Rattle.pm_top.specs.KeyLaws.{level_laws};
 
     ghost path = { λ space. space.path.items };
 
-    ghost key = { λ space. key_of space.calculus.now.problem.now space.calculus.now.start space.level };
+    ghost key = { λ space. key_of (plain_level space.calculus.now.problem.now space.calculus.now.start space.level) };
 
     fn width(&self) -> u32 {
         self.frame.width
@@ -67,7 +70,7 @@ impl<'m, 'p> Space for ClauseSpace<'m, 'p> {
         from
     }
 
-    ghost is_key = { λ space. key_laws space.calculus.now.problem.now space.calculus.now.start space.level };
+    ghost is_key = { λ space. level_laws (plain_level space.calculus.now.problem.now space.calculus.now.start space.level) };
 }
 
 // Pushes to both or, after want of memory, to neither.
@@ -91,7 +94,7 @@ fn push_both(
 impl<'m, 'p> Maker for &'m Calculus<'p> {
     type Made = ClauseSpace<'m, 'p>;
 
-    ghost key_at = { λ calculus level. key_of calculus.now.problem.now calculus.now.start level };
+    ghost key_at = { λ calculus level. key_of (plain_level calculus.now.problem.now calculus.now.start level) };
 
     fn make(&self, alloc: Global, level: u32) -> Result<ClauseSpace<'m, 'p>, AllocError> {
         let calculus: &'m Calculus<'p> = *self;
@@ -134,7 +137,9 @@ mod tests {
     }
 
     // The problem of `p` and `~p`.
-    fn contradiction(alloc: Global) -> Result<Problem, AllocError> {
+    fn contradiction(alloc: Global) -> Result<Problem, AllocError>
+        ensures { IfOk result HasNoArguments }
+    {
         let mut symbols = Symbols::new(alloc);
         symbols.number("p", 0, Kind::Predicate)?;
         let mut clauses = Vec::new(alloc);

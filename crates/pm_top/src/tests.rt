@@ -88,6 +88,26 @@ end
     Ok(())
 }
 
+// Nothing closes `c` or `d`. The leaf at depth 1 has two extensions; of the leaves at depth 2 one has a
+// reduction and an extension, the other a reduction; the leaf at depth 3 has two reductions.
+#[test]
+fn no_tableau(rt: HostRuntime) -> Result<(), Fail> {
+    let file = "cnf(goal,axiom,~a). cnf(r,axiom,a | ~b). cnf(s,axiom,a | ~c). cnf(t,axiom,b | ~d).";
+    let front = "% SZS status GaveUp
+level 0 exhausted attempts 1
+level 1 exhausted attempts 1
+level 2 exhausted attempts 5
+";
+    let mut want = String::from_str(rt.alloc(), front)?;
+    for level in 3..31 {
+        want.push_str(format!(in rt.alloc(); "level {level} exhausted attempts 8\n")?.as_str())?;
+    }
+    let (status, text) = prove(rt.alloc(), file)?;
+    assert_eq!(rt; status, Status::DepthReached);
+    assert_eq!(rt; text.as_str(), want.as_str());
+    Ok(())
+}
+
 #[test]
 fn first_form(rt: HostRuntime) -> Result<(), Fail> {
     let refusal = "% SZS status InputError\nnot in the first form\n";

@@ -8,6 +8,7 @@ use Rattle.pm_logic.specs.Term.{Term, tree_at}
 use Rattle.pm_logic.specs.Problem as spec
 use Rattle.pm_logic.specs.Problem.{Symbol, Numbers, HasShape, IsTermOver, IsLiteralOver, IsClauseOver, IsPrintable, IsValid}
 use Rattle.pm_logic.specs.View.{HasRows, literal_of, clause_of}
+use Rattle.pm_top.specs.Drawn.{IsBare, HasNoArguments}
 use Rattle.pm_top.proofs.space.tests.contradiction.Goals as goal
 
 -- the clause of one literal, the symbol 0 with no arguments
@@ -59,6 +60,18 @@ valid_units symbols terms clauses u v is are first second =
           (All-cons P (clause_of terms v) [] (valid_unit symbols terms v shape second) (All-nil P)));
     }
 
+abbrev HasBare : spec.Clause → Type 0
+HasBare clause = All IsBare clause.literals
+
+bare_unit : (terms : List Term) (u : Clause) → IsUnit u → HasBare (clause_of terms u)
+bare_unit terms u h = All-map IsBare (literal_of terms) u.literals.items (λ k d within.
+    subst (λ (args : List ℕ). length (map (tree_at terms) args) ≡ 0) (sym (h.args k d within)) refl)
+
+bare_units : (terms : List Term) (clauses : List Clause) (u v : Clause) → clauses ≡ u ∷ v ∷ [] → IsUnit u → IsUnit v → All HasBare (map (clause_of terms) clauses)
+bare_units terms clauses u v are first second =
+    subst (λ (cs : List Clause). All HasBare (map (clause_of terms) cs)) (sym are)
+    (All-cons HasBare (clause_of terms u) (clause_of terms v ∷ []) (bare_unit terms u first) (All-cons HasBare (clause_of terms v) [] (bare_unit terms v second) (All-nil HasBare)))
+
 pub new-requires-2-clause-rows : goal.new-requires-2-clause-rows
 new-requires-2-clause-rows c =
     let u = c.in_ok-unit_clause.field-0 in
@@ -79,3 +92,12 @@ new-requires-2-clause-valid c =
     let both = c.in_ok-push-2.ensures.items ∙ ap (λ cs. cs ++ v ∷ []) (c.in_ok-push.ensures.items ∙ ap (λ cs. cs ++ u ∷ []) c.new-clauses.ensures.items) in
     let symbols = first_symbol c.new-symbols.result c.number.new.self p c.in_ok-number.field-0 c.new-symbols.ensures c.in_ok-number.ensures.numbered in
     valid_units c.number.new.self c.new.result c.push-2.new.self.items u v symbols both first second
+
+pub returns : goal.returns
+returns c =
+    let u = c.in_ok-unit_clause.field-0 in
+    let v = c.in_ok-unit_clause-2.field-0 in
+    let first : IsUnit u = record { one = c.in_ok-unit_clause.ensures.one; symbol = c.in_ok-unit_clause.ensures.symbol; args = c.in_ok-unit_clause.ensures.args } in
+    let second : IsUnit v = record { one = c.in_ok-unit_clause-2.ensures.one; symbol = c.in_ok-unit_clause-2.ensures.symbol; args = c.in_ok-unit_clause-2.ensures.args } in
+    let both = c.in_ok-push-2.ensures.items ∙ ap (λ cs. cs ++ v ∷ []) (c.in_ok-push.ensures.items ∙ ap (λ cs. cs ++ u ∷ []) c.new-clauses.ensures.items) in
+    subst HasNoArguments (sym c.new-2.ensures) (bare_units c.new.result c.push-2.new.self.items u v both first second)

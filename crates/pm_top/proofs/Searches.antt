@@ -1,0 +1,142 @@
+-- How the search of a problem ends, and what follows of its answer.
+use Rattle.std.proofs.Common.{◌≡◌, ℕ, ◌<◌, inl, inr, List, [], ◌∷◌, length, Option, Some, None, IfSome, refl, ◌∙◌, ap, subst, arith}
+use Rattle.std.specs.Prelude.{All}
+use Rattle.std.specs.List.{AllByRecursion}
+use Rattle.std.proofs.lemmas.Bool.{cases_lt}
+use Rattle.std.proofs.lemmas.List.Elements.{All-from_recursion}
+use Rattle.pm_logic.specs.declared.problem.Start.{Start as Rule}
+use Rattle.pm_logic.specs.declared.problem.Start.TheVariants.{Negative}
+use Rattle.pm_logic.specs.Problem as logic
+use Rattle.pm_logic.specs.Problem.{Problem}
+use Rattle.pm_logic.specs.Tableau.{Tableau, depth}
+use Rattle.pm_logic.specs.Connection.{IsInClass}
+use Rattle.pm_logic.specs.Choices.{IsComplete, IsGeneral}
+use Rattle.pm_logic.proofs.General.{general_in_class}
+use Rattle.pm_logic.proofs.Refutation.{refuted}
+use Rattle.pm_logic.proofs.TreesToLists.{tableau_follows}
+use Rattle.pm_deepen.specs.declared.DeepEnd.{DeepEnd}
+use Rattle.pm_deepen.specs.declared.DeepEnd.TheVariants.{Proof, DepthReached, BudgetOut}
+use Rattle.pm_deepen.specs.Answer.{AreExhausted, IsAnswer}
+use Rattle.pm_deepen.specs.Levels.{key_of, IsAnswerOf}
+use Rattle.pm_top.specs.declared.status.Status.{Status}
+use Rattle.pm_top.specs.declared.status.Status.TheVariants as ends
+use Rattle.pm_top.specs.FirstForm as form
+use Rattle.pm_top.specs.Numbering.{Pairwise, IsLiteralOf, IsClauseOf, IsProblemOf}
+use Rattle.pm_top.specs.Drawn.{HasNoArguments}
+use Rattle.pm_top.specs.Spaces.{plain_level}
+use Rattle.pm_top.specs.Text.{gave_up, resource_out}
+use Rattle.pm_top.specs.Certificate.{proof_text}
+use Rattle.pm_top.specs.Run.{standard, level_of, status_of, text_of, IsProofAt, EndsSearch}
+
+-- ---- the problem of items has no arguments
+literals_bare : (symbols : List logic.Symbol) (written : List form.Literal) (ls : List logic.Literal) → Pairwise (IsLiteralOf symbols) written ls → AllByRecursion (λ (l : logic.Literal). length l.args ≡ 0) ls
+literals_bare symbols [] [] h = tt
+literals_bare symbols [] (l ∷ ls) h = absurd h
+literals_bare symbols (w ∷ ws) [] h = absurd h
+literals_bare symbols (w ∷ ws) (l ∷ ls) h = (ap length h.0.bare, literals_bare symbols ws ls h.1)
+
+clauses_bare : (symbols : List logic.Symbol) (items : List form.Item) (cs : List logic.Clause) → Pairwise (IsClauseOf symbols) items cs
+    → AllByRecursion (λ (c : logic.Clause). All (λ (l : logic.Literal). length l.args ≡ 0) c.literals) cs
+clauses_bare symbols [] [] h = tt
+clauses_bare symbols [] (c ∷ cs) h = absurd h
+clauses_bare symbols (i ∷ is) [] h = absurd h
+clauses_bare symbols (i ∷ is) (c ∷ cs) h =
+    (All-from_recursion (λ (l : logic.Literal). length l.args ≡ 0) c.literals (literals_bare symbols i.literals c.literals h.0.literals), clauses_bare symbols is cs h.1)
+
+pub problem_bare : (items : List form.Item) (problem : Problem) → IsProblemOf items problem → HasNoArguments problem
+problem_bare items problem h =
+    All-from_recursion (λ (c : logic.Clause). All (λ (l : logic.Literal). length l.args ≡ 0) c.literals) problem.clauses (clauses_bare problem.symbols items problem.clauses h.clauses)
+
+-- ---- what follows of an answer
+exhausted_empty : (problem : Problem) (works : List ℕ) → AreExhausted (λ bound. key_of (level_of problem bound)) standard.budget works
+    → (level : ℕ) → level < length works → (t : Tableau) → IsInClass (level_of problem level) t → ⊥
+exhausted_empty problem works exhausted level lt t member =
+    let follows = tableau_follows (level_of problem level) t member in
+    (exhausted.closes level lt).none follows.0 follows.1 (record { not_below = λ before. before; below = tt })
+
+at_own_depth : (problem : Problem) (level : ℕ) (t : Tableau) → IsInClass (level_of problem level) t → IsInClass (level_of problem (depth t)) t
+at_own_depth problem level t h = record {
+  start = h.start;
+  over = h.over;
+  closed = h.closed;
+  connected = h.connected;
+  regular = tt;
+  within = record { depth = omega arith };
+}
+
+proof_at : (problem : Problem) (works : List ℕ) (level work : ℕ) (path : List ℕ) (t : Tableau) → AreExhausted (λ bound. key_of (level_of problem bound)) standard.budget works
+    → level ≡ length works → IsComplete (level_of problem level) path → IsGeneral (level_of problem level) path t → IsProofAt problem (length works) t
+proof_at problem works level work path t exhausted is complete general =
+    let member = general_in_class (level_of problem level) path t complete general in
+    subst (λ n. IsProofAt problem n t) is (record {
+      member = member;
+      deep = elim (cases_lt (depth t) level) [
+        | inl less ↦ absurd (exhausted_empty problem works exhausted (depth t) (omega (arith, less, is)) t (at_own_depth problem level t member))
+        | inr more ↦ (let within = member.within.depth in omega (arith, more, within))
+      ];
+      refuted = λ atoms. refuted problem.clauses t member.over member.closed atoms;
+    })
+
+proved_tableau : (problem : Problem) (works : List ℕ) (end : DeepEnd) (tableau : Option Tableau) → IsAnswerOf problem standard works end tableau → IfSome tableau (IsProofAt problem (length works))
+proved_tableau problem works (Proof level path work) None h = absurd h.goes
+proved_tableau problem works (Proof level path work) (Some t) h =
+    let found = h.search.ends in
+    proof_at problem works level work path t h.search.exhausted found.0 found.2.first.complete h.goes
+proved_tableau problem works DepthReached None h = tt
+proved_tableau problem works DepthReached (Some t) h = absurd h.goes
+proved_tableau problem works (BudgetOut level) None h = tt
+proved_tableau problem works (BudgetOut level) (Some t) h = absurd h.goes
+
+pub search_ends : (problem : Problem) (works : List ℕ) (end : DeepEnd) (tableau : Option Tableau) (status : Status) (text : List ℕ) → IsAnswerOf problem standard works end tableau
+    → status ≡ status_of end → text ≡ text_of problem works end tableau → EndsSearch problem status text
+search_ends problem works end tableau status text h status_is text_is = record {
+  works = works;
+  end = end;
+  tableau = tableau;
+  answer = h;
+  status_is = status_is;
+  text_is = text_is;
+  exhausted = λ level lt member is. exhausted_empty problem works h.search.exhausted level lt member is;
+  proved = proved_tableau problem works end tableau h;
+}
+
+-- the answer of the search of a calculus, which is one of the problem with the start rule of every run
+pub answer_of : (problem given : Problem) (start : Rule) (works : List ℕ) (end : DeepEnd) → given ≡ problem → start ≡ Negative
+    → IsAnswer (λ bound. key_of (plain_level given start bound)) 30 1000000 works end → IsAnswer (λ bound. key_of (level_of problem bound)) 30 1000000 works end
+answer_of problem given start works end same negative h =
+    subst (λ (p : Problem). IsAnswer (λ bound. key_of (plain_level p Negative bound)) 30 1000000 works end) same
+    (subst (λ (r : Rule). IsAnswer (λ bound. key_of (plain_level given r bound)) 30 1000000 works end) negative h)
+
+pub ends_depth : (problem given : Problem) (start : Rule) (works shown : List ℕ) (end : DeepEnd) (text : List ℕ) → given ≡ problem → start ≡ Negative
+    → IsAnswer (λ bound. key_of (plain_level given start bound)) 30 1000000 works end → end ≡ DepthReached → shown ≡ works → text ≡ gave_up shown
+    → EndsSearch problem ends.DepthReached text
+ends_depth problem given start works shown end text same negative h is shown_is text_is =
+    search_ends problem works DepthReached None ends.DepthReached text
+    (record {
+      search = subst (λ (e : DeepEnd). IsAnswer (λ bound. key_of (level_of problem bound)) 30 1000000 works e) is (answer_of problem given start works end same negative h);
+      goes = tt;
+    })
+    refl (text_is ∙ ap gave_up shown_is)
+
+pub ends_budget : (problem given : Problem) (start : Rule) (works shown : List ℕ) (end : DeepEnd) (level : ℕ) (text : List ℕ) → given ≡ problem → start ≡ Negative
+    → IsAnswer (λ bound. key_of (plain_level given start bound)) 30 1000000 works end → end ≡ BudgetOut level → shown ≡ works → text ≡ resource_out shown
+    → EndsSearch problem ends.Budget text
+ends_budget problem given start works shown end level text same negative h is shown_is text_is =
+    search_ends problem works (BudgetOut level) None ends.Budget text
+    (record {
+      search = subst (λ (e : DeepEnd). IsAnswer (λ bound. key_of (level_of problem bound)) 30 1000000 works e) is (answer_of problem given start works end same negative h);
+      goes = tt;
+    })
+    refl (text_is ∙ ap resource_out shown_is)
+
+pub ends_proof : (problem given : Problem) (start : Rule) (works shown : List ℕ) (end : DeepEnd) (level work : ℕ) (path taken : List ℕ) (t : Tableau) (text : List ℕ)
+    → given ≡ problem → start ≡ Negative → IsAnswer (λ bound. key_of (plain_level given start bound)) 30 1000000 works end → end ≡ Proof level path work → shown ≡ works
+    → taken ≡ path → IsGeneral (plain_level given start level) taken t → text ≡ proof_text given.symbols t shown work → EndsSearch problem ends.Done text
+ends_proof problem given start works shown end level work path taken t text same negative h is shown_is taken_is general text_is =
+    let moved = subst (λ (p : Problem). IsGeneral (plain_level p Negative level) taken t) same (subst (λ (r : Rule). IsGeneral (plain_level given r level) taken t) negative general) in
+    search_ends problem works (Proof level path work) (Some t) ends.Done text
+    (record {
+      search = subst (λ (e : DeepEnd). IsAnswer (λ bound. key_of (level_of problem bound)) 30 1000000 works e) is (answer_of problem given start works end same negative h);
+      goes = subst (λ (choices : List ℕ). IsGeneral (level_of problem level) choices t) taken_is moved;
+    })
+    refl (text_is ∙ ap (λ (ws : List ℕ). proof_text given.symbols t ws work) shown_is ∙ ap (λ (p : Problem). proof_text p.symbols t works work) same)
