@@ -1,13 +1,11 @@
 -- The cell at the end of bindings, and how far it is.
-use Rattle.std.proofs.Common.{◌≡◌, ℕ, zero, suc, ◌+◌, ◌<◌, ◌≤◌, inl, inr, ◌==◌, if◌then◌else◌, List, [], ◌∷◌, ◌++◌, length, Option, Some, None, slice_get, refl, sym, ◌∙◌, ap, subst, arith}
+use Rattle.std.proofs.Common.{◌≡◌, ℕ, ◌+◌, ◌<◌, inl, inr, ◌==◌, if◌then◌else◌, List, [], ◌∷◌, length, Some, None, refl, sym, ◌∙◌, ap, subst, arith}
 use Rattle.std.specs.Prelude.{All}
 use Rattle.std.proofs.lemmas.Bool.{cases_eq}
 use Rattle.std.proofs.lemmas.List.Elements.{All-head, All-tail}
-use Rattle.std.proofs.lemmas.Option.{slice_get_within}
 use Rattle.pm_logic.specs.Term.{Term, var}
 use Rattle.pm_store.specs.declared.store.Entry.{Entry}
-use Rattle.pm_store.specs.declared.store.Entry.TheVariants.{Variable}
-use Rattle.pm_store.specs.Equations.{Binding, Equations, target_of, end_of, IsFree}
+use Rattle.pm_store.specs.Equations.{Binding, Equations, target_of, end_of}
 use Rattle.pm_store.specs.Trees.{tree, Occurs}
 use Rattle.pm_store.specs.Sound.{PointDown, CanBind, AreMade, IsSound}
 use Rattle.pm_store.proofs.ListLemmas.{if_same, if_other}
@@ -68,7 +66,7 @@ end_of-target cells (b ∷ bs) c d made bound =
     (λ later. ap next (end_of-target cells bs c d made.1 later))
   where
     either : (n v : ℕ) → (if n == v then n else n) ≡ n
-    either n v = elim (cases_eq n v) [ | inl e ↦ if_same n v n n e | inr ne ↦ if_other n v n n ne ]
+    either n v = elim (cases_eq n v) [ inl e ↦ if_same n v n n e | inr ne ↦ if_other n v n n ne ]
 
 -- the variable of a binding isn't at the end of its target's bindings
 pub end_of-apart : (s : Equations) (v t : ℕ) → IsSound s → CanBind s v t → end_of s.bindings t ≡ v → ⊥
@@ -102,18 +100,21 @@ steps-target cells (b ∷ bs) c d down made bound =
     let less : steps bs d < steps bs c = steps-target cells bs c d down made.1 later in
     elim (cases_eq (end_of bs c) b.variable) [
       | inl e ↦ both (steps (b ∷ bs) d) (steps (b ∷ bs) c) (steps bs d) (steps bs c) (1 + steps bs b.target) less
-        (if_same (end_of bs d) b.variable (steps bs d + 1 + steps bs b.target) (steps bs d) (sym ends ∙ e) ∙ regroup (steps bs d) (steps bs b.target))
-        (if_same (end_of bs c) b.variable (steps bs c + 1 + steps bs b.target) (steps bs c) e ∙ regroup (steps bs c) (steps bs b.target))
+          (if_same (end_of bs d) b.variable (steps bs d + 1 + steps bs b.target) (steps bs d) (sym ends ∙ e) ∙ regroup (steps bs d) (steps bs b.target))
+          (if_same (end_of bs c) b.variable (steps bs c + 1 + steps bs b.target) (steps bs c) e ∙ regroup (steps bs c) (steps bs b.target))
       | inr ne ↦ both (steps (b ∷ bs) d) (steps (b ∷ bs) c) (steps bs d) (steps bs c) 0 less
-        (if_other (end_of bs d) b.variable (steps bs d + 1 + steps bs b.target) (steps bs d) (λ e. ne (ends ∙ e)) ∙ nothing (steps bs d))
-        (if_other (end_of bs c) b.variable (steps bs c + 1 + steps bs b.target) (steps bs c) ne ∙ nothing (steps bs c))
+          (if_other (end_of bs d) b.variable (steps bs d + 1 + steps bs b.target) (steps bs d) (λ e. ne (ends ∙ e)) ∙ nothing (steps bs d))
+          (if_other (end_of bs c) b.variable (steps bs c + 1 + steps bs b.target) (steps bs c) ne ∙ nothing (steps bs c))
     ])
   where
     more : (m n p q : ℕ) → m ≡ q → n ≡ p + 1 + q → m < n
     more m n p q to from = omega arith
+
     both : (m n p q k : ℕ) → p < q → m ≡ p + k → n ≡ q + k → m < n
     both m n p q k less to from = omega arith
+
     regroup : (m n : ℕ) → m + 1 + n ≡ m + (1 + n)
     regroup m n = omega arith
+
     nothing : (m : ℕ) → m ≡ m + 0
     nothing m = omega arith

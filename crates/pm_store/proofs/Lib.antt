@@ -5,3 +5,5 @@ pub mod BindingLemmas
 pub mod SolutionLemmas
 pub mod StoredLemmas
 pub mod LookLemmas
+pub mod MarkLemmas
+pub mod CycleLemmas

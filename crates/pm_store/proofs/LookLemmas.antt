@@ -1,5 +1,5 @@
 -- What is read at the end of the bindings from a cell.
-use Rattle.std.proofs.Common.{◌≡◌, ℕ, ◌+◌, ◌<◌, ◌≤◌, List, length, map, get_or, Option, Some, None, slice_get, refl, sym, ◌∙◌, ap, subst, arith}
+use Rattle.std.proofs.Common.{◌≡◌, ℕ, ◌+◌, ◌<◌, List, length, map, get_or, Option, Some, None, slice_get, refl, sym, ◌∙◌, ap, subst, arith}
 use Rattle.std.specs.Prelude.{All}
 use Rattle.std.proofs.lemmas.List.{get_or_read}
 use Rattle.std.proofs.lemmas.List.Elements.{All-weaker}
@@ -7,7 +7,7 @@ use Rattle.std.proofs.lemmas.Option.{slice_get_read, slice_get_within}
 use Rattle.pm_logic.specs.Term.{Term, app, as_terms}
 use Rattle.pm_store.specs.declared.store.Entry.{Entry}
 use Rattle.pm_store.specs.declared.store.Entry.TheVariants.{Variable, Application}
-use Rattle.pm_store.specs.Equations.{Binding, Equations, target_of, end_of, IsFree}
+use Rattle.pm_store.specs.Equations.{Equations, target_of, end_of, IsFree}
 use Rattle.pm_store.specs.Solutions.{Solves}
 use Rattle.pm_store.specs.Sound.{PointsBelow, IsSound}
 use Rattle.pm_store.specs.Stored.{target_at, equations_of, IsStored}
@@ -87,9 +87,10 @@ application_shown s a c symbol args shown sound found same =
     let below : All (λ arg. arg < c) args =
     subst (λ (n : ℕ). PointsBelow n (Application symbol args)) start (points_below 0 s.cells sound.down c (Application symbol args) found.stands) in
     let within : c < length s.cells = slice_get_within s.cells c (Application symbol args) found.stands in
-    subst (λ (xs : List ℕ). (slice_get s.cells (end_of s.bindings a) ≡ Some (Application symbol xs)) × All (λ arg. arg < length s.cells) xs) (sym same)
-    (ap (slice_get s.cells) (sym found.end) ∙ found.stands,
-    All-weaker (λ arg. arg < c) (λ arg. arg < length s.cells) (λ arg lt. farther arg c (length s.cells) lt within) args below)
+    subst (λ (xs : List ℕ). (slice_get s.cells (end_of s.bindings a) ≡ Some (Application symbol xs)) × All (λ arg. arg < length s.cells) xs) (sym same) (
+      ap (slice_get s.cells) (sym found.end) ∙ found.stands,
+      All-weaker (λ arg. arg < c) (λ arg. arg < length s.cells) (λ arg lt. farther arg c (length s.cells) lt within) args below,
+    )
   where
     farther : (m n k : ℕ) → m < n → n < k → m < k
     farther m n k lt lt' = omega arith

@@ -1,15 +1,14 @@
 -- How solutions and soundness change with a cell or a binding.
-use Rattle.std.proofs.Common.{◌≡◌, ℕ, zero, suc, ◌+◌, ◌<◌, ◌≤◌, inl, inr, List, [], ◌∷◌, ◌++◌, length, map, Result, Ok, Err, OnOk, IfOk, Some, None, slice_get, refl, sym, ◌∙◌, ap, subst, arith}
-use Rattle.std.specs.Prelude.{All, ◌↔◌}
+use Rattle.std.proofs.Common.{◌≡◌, ℕ, suc, ◌+◌, ◌<◌, inl, inr, List, [], ◌∷◌, ◌++◌, length, map, Result, Ok, Err, OnOk, IfOk, refl, sym, ◌∙◌, ap, subst, arith}
+use Rattle.std.specs.Prelude.{◌↔◌}
 use Rattle.std.proofs.lemmas.List.{length_push, length-append}
 use Rattle.std.proofs.lemmas.List.Elements.{All-head, All-tail, All-cons}
-use Rattle.std.proofs.lemmas.Option.{slice_get_within}
 use Rattle.pm_logic.specs.Term.{Term, app, as_terms, tree_at}
 use Rattle.pm_store.specs.declared.store.Entry.{Entry}
 use Rattle.pm_store.specs.declared.store.Entry.TheVariants.{Variable, Application}
-use Rattle.pm_store.specs.Equations.{Binding, Equations, with_cell, with_binding, target_of, IsFree}
+use Rattle.pm_store.specs.Equations.{Binding, Equations, with_cell, with_binding}
 use Rattle.pm_store.specs.Solutions.{Solves}
-use Rattle.pm_store.specs.Trees.{trees_from, tree_of, put_at, tree_under, tree, Occurs}
+use Rattle.pm_store.specs.Trees.{trees_from, tree_of, put_at, tree_under, Occurs}
 use Rattle.pm_store.specs.Sound.{PointsBelow, PointDown, CanBind, AreMade, IsSound}
 use Rattle.pm_store.proofs.ListLemmas.{slice_get-append, slice_get-last, slice_get-push}
 use Rattle.pm_store.proofs.TreeLemmas.{trees_from-kept}
@@ -49,8 +48,7 @@ Solves-with_cell s e trees = (
 pub Solves-with_binding : (s : Equations) (v t : ℕ) (trees : ℕ → Term) → Solves (with_binding s v t) trees ↔ (Solves s trees × (trees v ≡ trees t))
 Solves-with_binding s v t trees =
     let equal : Binding → Type 0 = λ b. trees b.variable ≡ trees b.target in
-    let first : Binding = record { variable = v; target = t } in
-    (
+    let first : Binding = record { variable = v; target = t } in (
       λ solves. (
         record { applications = solves.applications; bindings = All-tail equal first s.bindings solves.bindings },
         All-head equal first s.bindings solves.bindings,
@@ -80,8 +78,7 @@ tree_under-append cells more (b ∷ bs) made c within =
 AreMade-append : (cells more : List Entry) (bs : List Binding) → AreMade cells bs → AreMade (cells ++ more) bs
 AreMade-append cells more [] made = tt
 AreMade-append cells more (b ∷ bs) made =
-    let same : tree_under (cells ++ more) bs b.target ≡ tree_under cells bs b.target = tree_under-append cells more bs made.1 b.target made.0.within in
-    (
+    let same : tree_under (cells ++ more) bs b.target ≡ tree_under cells bs b.target = tree_under-append cells more bs made.1 b.target made.0.within in (
       record {
         free = record {
           variable = slice_get-append cells more b.variable Variable made.0.free.variable;

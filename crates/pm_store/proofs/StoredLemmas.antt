@@ -1,5 +1,5 @@
 -- How what is kept of bindings changes.
-use Rattle.std.proofs.Common.{◌≡◌, ℕ, zero, suc, ◌+◌, ◌<◌, ◌≤◌, inl, inr, ◌==◌, if◌then◌else◌, is_none, Bool, List, [], ◌∷◌, ◌++◌, length, map, reverse, take, set, get_or, Option, Result, Ok, Err, Some, None, OnOk, OnErr, IfOk, unwrap_or, slice_get, refl, sym, ◌∙◌, ap, ap₂, subst, arith}
+use Rattle.std.proofs.Common.{◌≡◌, ℕ, zero, suc, ◌+◌, ◌<◌, ◌≤◌, inl, inr, if◌then◌else◌, is_none, List, [], ◌∷◌, ◌++◌, length, map, reverse, take, set, Option, Result, Ok, Err, Some, None, OnOk, OnErr, IfOk, unwrap_or, slice_get, refl, sym, ◌∙◌, ap, ap₂, subst, arith}
 use Rattle.std.specs.Prelude.{All}
 use Rattle.std.proofs.lemmas.Bool.{cases_eq, cases_lt}
 use Rattle.std.proofs.lemmas.List.{length_push, length-append, length-set, length-take, length-map, length-reverse, reverse-append, get_or-set_same, get_or-set_other, get_or-take, get_or_past, take_at, append_assoc}
@@ -8,7 +8,7 @@ use Rattle.pm_store.specs.declared.store.Entry.{Entry}
 use Rattle.pm_store.specs.declared.store.Entry.TheVariants.{Variable, Application}
 use Rattle.pm_store.specs.Equations.{Binding, Equations, with_cell, with_binding, target_of, IsFree, free_at, free_among, free_count}
 use Rattle.pm_store.specs.Sound.{PointsBelow, CanBind, AreMade, IsSound}
-use Rattle.pm_store.specs.Marks.{Counts, counts_of, IsLater, HasMark}
+use Rattle.pm_store.specs.Marks.{IsLater}
 use Rattle.pm_store.specs.Stored.{target_at, binding_at, bindings_of, equations_of, IsStored}
 use Rattle.pm_store.proofs.ListLemmas.{if_same, if_other}
 use Rattle.pm_store.proofs.SolutionLemmas.{IsSound-with_cell, IsSound-with_binding}
@@ -98,7 +98,7 @@ bindings_elsewhere targets v t (w ∷ vs) unbound =
     elim (cases_eq w v) [
       | inl e ↦ absurd (bound (binding_at targets w).target (sym (if_same w v first rest e) ∙ unbound))
       | inr ne ↦ ap₂ (λ b bs. b ∷ bs) (ap with_target (get_or-set_other targets v w t None ne))
-        (bindings_elsewhere targets v t vs (sym (if_other w v first rest ne) ∙ unbound))
+          (bindings_elsewhere targets v t vs (sym (if_other w v first rest ne) ∙ unbound))
     ]
   where
     bound : (n : ℕ) → Some n ≡ None → ⊥
@@ -127,12 +127,12 @@ IsStored-bind cells targets trail v t stored can =
       count = length-set targets v (Some t) ∙ stored.count;
       agree = λ w. elim (cases_eq v w) [
         | inl e ↦ ap (target_at (set targets v (Some t))) (sym e) ∙ get_or-set_same targets v (Some t) None within
-          ∙ sym (if_same v w (Some t) (target_of (bindings_of targets trail) w) e) ∙ ap (λ bs. target_of bs w) (sym bindings)
+            ∙ sym (if_same v w (Some t) (target_of (bindings_of targets trail) w) e) ∙ ap (λ bs. target_of bs w) (sym bindings)
         | inr ne ↦ get_or-set_other targets v w (Some t) None (λ e. ne (sym e)) ∙ stored.agree w
-          ∙ sym (if_other v w (Some t) (target_of (bindings_of targets trail) w) ne) ∙ ap (λ bs. target_of bs w) (sym bindings)
+            ∙ sym (if_other v w (Some t) (target_of (bindings_of targets trail) w) ne) ∙ ap (λ bs. target_of bs w) (sym bindings)
       ];
       sound = subst (λ (bs : List Binding). let s : Equations = record { cells = cells; bindings = bs } in IsSound s) (sym bindings)
-        (IsSound-with_binding (equations_of cells targets trail) v t stored.sound can);
+          (IsSound-with_binding (equations_of cells targets trail) v t stored.sound can);
     }
 
 -- so of the store's own equations, where the cell and the trail are equal to these
@@ -170,12 +170,12 @@ unbound cells targets trail v stored =
         count = length-set targets v None ∙ stored.count;
         agree = λ w. elim (cases_eq v w) [
           | inl e ↦ ap (target_at (set targets v None)) (sym e) ∙ get_or-set_same targets v None None within
-            ∙ sym free ∙ ap (target_of before) e ∙ ap (λ bs. target_of bs w) (sym stays)
+              ∙ sym free ∙ ap (target_of before) e ∙ ap (λ bs. target_of bs w) (sym stays)
           | inr ne ↦ get_or-set_other targets v w None None (λ e. ne (sym e)) ∙ stored.agree w ∙ ap (λ bs. target_of bs w) parts
-            ∙ if_other v w (Some first.target) (target_of before w) ne ∙ ap (λ bs. target_of bs w) (sym stays)
+              ∙ if_other v w (Some first.target) (target_of before w) ne ∙ ap (λ bs. target_of bs w) (sym stays)
         ];
         sound = subst (λ (bs : List Binding). let s : Equations = record { cells = cells; bindings = bs } in IsSound s) (sym stays)
-          (record { down = sound.down; made = sound.made.1 });
+            (record { down = sound.down; made = sound.made.1 });
       };
       bindings = parts ∙ ap (λ bs. first ∷ bs) (sym stays);
     }
@@ -240,7 +240,7 @@ back : (before s : Equations) (entries : List Entry) (targets : List (Option ℕ
 back before s entries targets trail later same_cells rest count = record {
   cells = ap (take (length before.cells)) (same_cells ∙ later.cells.1) ∙ take_at before.cells later.cells.0 (length before.cells) refl;
   bindings = same_suffix rest.0 later.bindings.0 (bindings_of targets trail) before.bindings (sym rest.1 ∙ later.bindings.1)
-    (length-bindings_of targets trail ∙ count);
+      (length-bindings_of targets trail ∙ count);
 }
 
 -- a store has the bindings of the one that it grew from, at least
@@ -259,7 +259,7 @@ target_at-take before entries targets trail sound stored is_back v =
     elim (cases_lt v n) [
       | inl lt ↦ get_or-take n targets v None lt
       | inr beyond ↦ get_or_past (take n targets) v None (omega (arith, length-take n targets))
-        ∙ sym (stored.agree v ∙ ap (λ bs. target_of bs v) is_back.bindings ∙ unbound_beyond before.cells before.bindings v sound.made beyond)
+          ∙ sym (stored.agree v ∙ ap (λ bs. target_of bs v) is_back.bindings ∙ unbound_beyond before.cells before.bindings v sound.made beyond)
     ]
 
 equations-undone : (before other : Equations) (entries : List Entry) (targets : List (Option ℕ)) (trail : List ℕ) (n : ℕ) → n ≡ length before.cells → n ≡ length other.cells

@@ -1,17 +1,16 @@
 -- The trees of cells solve their equations, and every solution is an instance of them.
-use Rattle.std.proofs.Common.{◌≡◌, ℕ, zero, suc, ◌+◌, ◌<◌, ◌≤◌, inl, inr, ◌==◌, if◌then◌else◌, List, [], ◌∷◌, ◌++◌, length, map, Option, Some, None, slice_get, get_or, refl, sym, ◌∙◌, ap, subst, arith, add-zero}
+use Rattle.std.proofs.Common.{◌≡◌, ℕ, zero, suc, ◌+◌, ◌<◌, inl, inr, List, [], ◌∷◌, ◌++◌, length, map, Some, None, slice_get, get_or, refl, sym, ◌∙◌, ap, subst, arith, add-zero}
 use Rattle.std.specs.Prelude.{All}
 use Rattle.std.proofs.lemmas.Bool.{cases_eq}
 use Rattle.std.proofs.lemmas.List.{length_push, get_or_append_left, get_or_push}
 use Rattle.std.proofs.lemmas.List.Elements.{All-head, All-tail, All-cons, All-weaker, All-nil}
-use Rattle.std.proofs.lemmas.Option.{slice_get-get_or, slice_get_within}
+use Rattle.std.proofs.lemmas.Option.{slice_get-get_or}
 use Rattle.pm_logic.specs.Term.{Term, var, app, as_terms, tree_at}
 use Rattle.pm_store.specs.declared.store.Entry.{Entry}
 use Rattle.pm_store.specs.declared.store.Entry.TheVariants.{Variable, Application}
 use Rattle.pm_store.specs.Equations.{Binding, Equations, target_of, IsFree}
-use Rattle.pm_store.specs.Solutions.{Solves}
-use Rattle.pm_store.specs.Trees.{tree_of, trees_from, put_at, tree_under, tree, Occurs, fill}
-use Rattle.pm_store.specs.Sound.{PointsBelow, PointDown, CanBind, AreMade, IsSound}
+use Rattle.pm_store.specs.Trees.{tree_of, trees_from, put_at, tree_under, tree, fill}
+use Rattle.pm_store.specs.Sound.{PointsBelow, PointDown, AreMade, IsSound}
 use Rattle.pm_store.specs.Laws.{TreesSolve, TreesAreGeneral}
 use Rattle.pm_store.proofs.ListLemmas.{if_same, if_other, map_agree}
 use Rattle.pm_store.proofs.TermLemmas.{put_at-absent, put_at-var, fill-put_at, put_at_among-as_terms, fill_among-as_terms}

@@ -1,5 +1,5 @@
 -- Equations between cells: each cell is a variable or an application, and variables are bound to cells.
-use Rattle.std.specs.Prelude.{◌≡◌, ℕ, suc, ◌+◌, ◌==◌, is_none, if◌then◌else◌, List, [], ◌∷◌, ◌++◌, Option, Some, None, length, slice_get}
+use Rattle.std.specs.Prelude.{◌≡◌, ℕ, suc, ◌+◌, ◌==◌, is_none, if◌then◌else◌, List, [], ◌∷◌, ◌++◌, Option, Some, None, slice_get}
 use Rattle.pm_store.specs.declared.store.Entry.{Entry}
 use Rattle.pm_store.specs.declared.store.Entry.TheVariants.{Variable, Application}
 

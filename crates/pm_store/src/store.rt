@@ -121,7 +121,11 @@ impl Store {
         ensures err { OnErr result (self.new ≡ self.old) }
     {
         let args = Items::from_slice(self.alloc, args)?;
-        add_cell(&mut self.cells, &mut self.targets, Entry::Application(symbol, args))
+        add_cell(
+            &mut self.cells,
+            &mut self.targets,
+            Entry::Application(symbol, args),
+        )
     }
 
     /// What is at the end of the bindings from a cell.
@@ -207,35 +211,65 @@ mod tests {
     use super::*;
     use std::test::Fail;
 
-    // The symbols f and a.
-    const F: u32 = 2;
+    // The symbols a and f.
     const A: u32 = 1;
+
+    const F: u32 = 2;
 
     fn is_free(store: &Store, a: Addr, v: Addr) -> bool
         requires { a < length store.now.cells }
     {
-        matches!(store.look(a), Cell::Free(w) if w == v)
+        match store.look(a) {
+            Cell::Free(w) => w == v,
+            Cell::App { .. } => false,
+        }
     }
 
-    fn is_app(store: &Store, a: Addr, f: u32, expected: &[Addr]) -> bool
+    fn is_application(store: &Store, a: Addr, symbol: u32, args: &[Addr]) -> bool
         requires { a < length store.now.cells }
     {
-        matches!(store.look(a), Cell::App { symbol, args } if symbol == f && args == expected)
+        match store.look(a) {
+            Cell::Free(_) => false,
+            Cell::App {
+                symbol: f,
+                args: shown,
+            } => f == symbol && shown == args,
+        }
     }
 
     #[test]
-    fn a_variable_is_bound_and_freed(rt: HostRuntime) -> Result<(), Fail> {
+    fn a_bound_variable_is_freed(rt: HostRuntime) -> Result<(), Fail> {
         let mut store = Store::new(rt.alloc());
         let x = store.fresh()?;
         let y = store.fresh()?;
         let a = store.make(A, &[])?;
+        assert!(rt; is_free(&store, x, x));
         let mark = store.mark();
         store.bind(x, a)?;
-        assert!(rt; is_app(&store, x, A, &[]));
+        assert!(rt; is_application(&store, x, A, &[]));
         assert!(rt; is_free(&store, y, y));
         store.undo(mark);
         assert!(rt; is_free(&store, x, x));
         assert_eq!(rt; store.len(), 3);
+        Ok(())
+    }
+
+    #[test]
+    fn bindings_are_followed_to_their_end(rt: HostRuntime) -> Result<(), Fail> {
+        let mut store = Store::new(rt.alloc());
+        let x = store.fresh()?;
+        let y = store.fresh()?;
+        store.bind(x, y)?;
+        assert!(rt; is_free(&store, x, y));
+        let mark = store.mark();
+        let a = store.make(A, &[])?;
+        let t = store.make(F, &[x, a])?;
+        store.bind(y, a)?;
+        assert!(rt; is_application(&store, x, A, &[]));
+        assert!(rt; is_application(&store, t, F, &[x, a]));
+        store.undo(mark);
+        assert!(rt; is_free(&store, x, y));
+        assert_eq!(rt; store.len(), 2);
         Ok(())
     }
 }

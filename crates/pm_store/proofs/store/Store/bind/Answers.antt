@@ -1,4 +1,4 @@
-use Rattle.std.proofs.Common.{ℕ, ◌+◌, sym, ◌∙◌, ap, subst}
+use Rattle.std.proofs.Common.{◌+◌, sym, ◌∙◌, ap, subst}
 use Rattle.std.specs.Prelude.{◌↔◌, ◌≡◌}
 use Rattle.pm_store.specs.Equations.{Equations, free_count}
 use Rattle.pm_store.specs.Solutions.{Solves}

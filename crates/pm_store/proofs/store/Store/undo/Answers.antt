@@ -1,4 +1,4 @@
-use Rattle.std.proofs.Common.{◌≡◌, ℕ, ◌≤◌, [], length, refl, ◌∙◌, ap, arith}
+use Rattle.std.proofs.Common.{◌≡◌, [], length, refl, ◌∙◌, ap, arith}
 use Rattle.pm_store.specs.Marks.{Counts}
 use Rattle.pm_store.proofs.StoredLemmas.{unbound_more, unbound_within, undone_to, later_count, equations-truncated, IsStored-truncated}
 use Rattle.pm_store.proofs.store.Store.undo.Goals as goal
