@@ -1,7 +1,6 @@
 -- Trees are finite: a variable can't have the tree of a term in which it occurs.
-use Rattle.std.proofs.Common.{◌≡◌, ℕ, ◌+◌, ◌<◌, ◌≤◌, ◌⊎◌, inl, inr, refl, sym, ◌∙◌, ap, subst, arith}
+use Rattle.std.proofs.Common.{◌≡◌, ℕ, ◌+◌, ◌≤◌, inl, inr, sym, ◌∙◌, ap, subst, arith}
 use Rattle.pm_logic.specs.Term.{Term, var, app, Terms, no_terms, more_terms}
-use Rattle.pm_store.specs.Equations.{Equations}
 use Rattle.pm_store.specs.Trees.{tree, Occurs, OccursAmong, fill, fill_among}
 use Rattle.pm_store.specs.Laws.{CyclesHaveNoSolution}
 use Rattle.pm_store.proofs.TreeLemmas.{general}

@@ -14,10 +14,6 @@ use Rattle.pm_store.specs.Stored.{target_at, equations_of, IsStored}
 use Rattle.pm_store.proofs.TreeLemmas.{points_below}
 use Rattle.pm_store.proofs.BindingLemmas.{end_of-solved, end_of-unbound, end_of-target, target_within, steps, steps-target}
 
-pub sound_of : (s : Equations) (cells : List Entry) (targets : List (Option ℕ)) (trail : List ℕ) → equations_of cells targets trail ≡ s → IsStored cells targets trail
-    → IsSound s
-sound_of s cells targets trail view stored = subst IsSound view stored.sound
-
 -- what stands at a cell's place
 pub read_target : (s : Equations) (cells : List Entry) (targets : List (Option ℕ)) (trail : List ℕ) → equations_of cells targets trail ≡ s → IsStored cells targets trail
     → (place at_cell : ℕ) → place ≡ at_cell → at_cell < length s.cells → (target : Option ℕ) → target ≡ get_or targets place target

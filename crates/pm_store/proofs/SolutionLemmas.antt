@@ -1,17 +1,19 @@
 -- How solutions and soundness change with a cell or a binding.
-use Rattle.std.proofs.Common.{◌≡◌, ℕ, suc, ◌+◌, ◌<◌, inl, inr, List, [], ◌∷◌, ◌++◌, length, map, Result, Ok, Err, OnOk, IfOk, refl, sym, ◌∙◌, ap, subst, arith}
-use Rattle.std.specs.Prelude.{◌↔◌}
+use Rattle.std.proofs.Common.{◌≡◌, ℕ, suc, ◌+◌, ◌<◌, ◌≤◌, inl, inr, List, [], ◌∷◌, ◌++◌, length, map, Result, Ok, Err, OnOk, IfOk, refl, sym, ◌∙◌, ap, subst, arith}
+use Rattle.std.specs.Prelude.{◌↔◌, All}
 use Rattle.std.proofs.lemmas.List.{length_push, length-append}
-use Rattle.std.proofs.lemmas.List.Elements.{All-head, All-tail, All-cons}
+use Rattle.std.proofs.lemmas.List.Elements.{All-nil, All-head, All-tail, All-cons, All-weaker}
+use Rattle.std.proofs.lemmas.Option.{slice_get_within}
 use Rattle.pm_logic.specs.Term.{Term, app, as_terms, tree_at}
 use Rattle.pm_store.specs.declared.store.Entry.{Entry}
 use Rattle.pm_store.specs.declared.store.Entry.TheVariants.{Variable, Application}
 use Rattle.pm_store.specs.Equations.{Binding, Equations, with_cell, with_binding}
-use Rattle.pm_store.specs.Solutions.{Solves}
+use Rattle.pm_store.specs.Solutions.{Solves, with_tree}
 use Rattle.pm_store.specs.Trees.{trees_from, tree_of, put_at, tree_under, Occurs}
 use Rattle.pm_store.specs.Sound.{PointsBelow, PointDown, CanBind, AreMade, IsSound}
-use Rattle.pm_store.proofs.ListLemmas.{slice_get-append, slice_get-last, slice_get-push}
-use Rattle.pm_store.proofs.TreeLemmas.{trees_from-kept}
+use Rattle.pm_store.specs.Laws.{OtherCellsAreOpen}
+use Rattle.pm_store.proofs.ListLemmas.{if_other, map_agree, slice_get-append, slice_get-last, slice_get-push}
+use Rattle.pm_store.proofs.TreeLemmas.{trees_from-kept, points_below}
 
 -- what one more cell asks of trees
 abbrev pub IsEntry : (ℕ → Term) → ℕ → Entry → Type 0
@@ -119,6 +121,58 @@ fresh_solutions (Ok x) old new is = λ trees.
     let parts = Solves-with_cell old Variable trees in
     subst (λ (s : Equations). Solves s trees ↔ Solves old trees) (sym is) (λ solves. (parts.0 solves).0, λ solves. parts.1 (solves, tt))
 fresh_solutions (Err x) old new is = tt
+
+-- trees that differ at one cell alone agree on a list of cells below it
+args_agree : (trees : ℕ → Term) (c : ℕ) (t : Term) (args : List ℕ) → All (λ arg. arg < c) args → map (with_tree trees c t) args ≡ map trees args
+args_agree trees c t args below = map_agree (with_tree trees c t) trees c args (λ a lt. if_other a c t (trees a) (apart a c lt)) below
+  where
+    apart : (m n : ℕ) → m < n → m ≡ n → ⊥
+    apart m n lt e = omega arith
+
+bindings_agree : (cells : List Entry) (bs : List Binding) (trees : ℕ → Term) (c : ℕ) (t : Term) → AreMade cells bs → length cells ≤ c
+    → All (λ b. trees b.variable ≡ trees b.target) bs → All (λ b. with_tree trees c t b.variable ≡ with_tree trees c t b.target) bs
+bindings_agree cells [] trees c t made beyond same = All-nil (λ (b : Binding). with_tree trees c t b.variable ≡ with_tree trees c t b.target)
+bindings_agree cells (b ∷ bs) trees c t made beyond same =
+    let equal : Binding → Type 0 = λ b'. trees b'.variable ≡ trees b'.target in
+    let equal' : Binding → Type 0 = λ b'. with_tree trees c t b'.variable ≡ with_tree trees c t b'.target in
+    let first : with_tree trees c t b.variable ≡ with_tree trees c t b.target =
+    if_other b.variable c t (trees b.variable) (apart b.variable c (length cells) (slice_get_within cells b.variable Variable made.0.free.variable) beyond)
+    ∙ All-head equal b bs same
+    ∙ sym (if_other b.target c t (trees b.target) (apart b.target c (length cells) made.0.within beyond)) in
+    All-cons equal' b bs first (bindings_agree cells bs trees c t made.1 beyond (All-tail equal b bs same))
+  where
+    apart : (m n k : ℕ) → m < k → k ≤ n → m ≡ n → ⊥
+    apart m n k lt le e = omega arith
+
+pub other_cells_are_open : OtherCellsAreOpen
+other_cells_are_open s solution c t sound beyond solves = record {
+  applications = λ cell symbol args is.
+      let start : 0 + cell ≡ cell = omega arith in
+      let within : cell < length s.cells = slice_get_within s.cells cell (Application symbol args) is in
+      let below : All (λ arg. arg < cell) args =
+      subst (λ (n : ℕ). PointsBelow n (Application symbol args)) start (points_below 0 s.cells sound.down cell (Application symbol args) is) in
+      let farther : All (λ arg. arg < c) args = All-weaker (λ arg. arg < cell) (λ arg. arg < c) (λ arg lt. nearer arg cell c (length s.cells) lt within beyond) args below in
+      if_other cell c t (solution cell) (apart cell c (length s.cells) within beyond)
+      ∙ solves.applications cell symbol args is
+      ∙ ap (λ ts. app symbol (as_terms ts)) (sym (args_agree solution c t args farther));
+  bindings = bindings_agree s.cells s.bindings solution c t sound.made beyond solves.bindings;
+}
+  where
+    apart : (m n k : ℕ) → m < k → k ≤ n → m ≡ n → ⊥
+    apart m n k lt le e = omega arith
+
+    nearer : (m n k l : ℕ) → m < n → n < l → l ≤ k → m < k
+    nearer m n k l lt lt' le = omega arith
+
+pub fresh_any : {E : Type 0} (r : Result ℕ E) (old new : Equations) → IsSound old → OnOk r (new ≡ with_cell old Variable) → IfOk r (λ v. v ≡ length old.cells)
+    → IfOk r (λ v. (trees : ℕ → Term) (t : Term) → Solves old trees → Solves new (with_tree trees v t))
+fresh_any (Ok v) old new sound is place = λ trees t solves.
+    subst (λ (s : Equations). Solves s (with_tree trees v t)) (sym is)
+    ((Solves-with_cell old Variable (with_tree trees v t)).1 (other_cells_are_open old trees v t sound (at_least v (length old.cells) place) solves, tt))
+  where
+    at_least : (m n : ℕ) → m ≡ n → n ≤ m
+    at_least m n e = omega arith
+fresh_any (Err x) old new sound is place = tt
 
 -- a new application has the tree of its symbol and arguments
 pub make_solutions : {E : Type 0} (r : Result ℕ E) (old new : Equations) (symbol : ℕ) (args : List ℕ) → OnOk r (new ≡ with_cell old (Application symbol args))

@@ -13,6 +13,10 @@ use Rattle.pm_store.specs.Stored.{target_at, binding_at, bindings_of, equations_
 use Rattle.pm_store.proofs.ListLemmas.{if_same, if_other}
 use Rattle.pm_store.proofs.SolutionLemmas.{IsSound-with_cell, IsSound-with_binding}
 
+pub sound_of : (s : Equations) (cells : List Entry) (targets : List (Option ℕ)) (trail : List ℕ) → equations_of cells targets trail ≡ s → IsStored cells targets trail
+    → IsSound s
+sound_of s cells targets trail view stored = subst IsSound view stored.sound
+
 target_at-push : (targets : List (Option ℕ)) (v : ℕ) → target_at (targets ++ None ∷ []) v ≡ target_at targets v
 target_at-push [] zero = refl
 target_at-push [] (suc v) = refl

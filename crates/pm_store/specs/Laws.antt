@@ -1,9 +1,9 @@
 -- Laws of solutions, and of marks.
-use Rattle.std.specs.Prelude.{◌≡◌, ◌≢◌, ℕ, ◌<◌, length}
+use Rattle.std.specs.Prelude.{◌≡◌, ◌≢◌, ℕ, ◌<◌, ◌≤◌, length}
 use Rattle.pm_logic.specs.Term.{Term, var}
 use Rattle.pm_store.specs.declared.store.Entry.{Entry}
 use Rattle.pm_store.specs.Equations.{Equations, with_cell, with_binding}
-use Rattle.pm_store.specs.Solutions.{Solves}
+use Rattle.pm_store.specs.Solutions.{Solves, with_tree}
 use Rattle.pm_store.specs.Sound.{IsSound}
 use Rattle.pm_store.specs.Trees.{tree, fill, Occurs}
 use Rattle.pm_store.specs.Marks.{Counts, IsLater, HasMark}
@@ -16,6 +16,11 @@ TreesSolve = (s : Equations) → IsSound s → Solves s (tree s)
 abbrev pub TreesAreGeneral : Type 0
 TreesAreGeneral = (s : Equations) (solution : ℕ → Term) → IsSound s → Solves s solution
     → (c : ℕ) → c < length s.cells → solution c ≡ fill solution (tree s c)
+
+-- a solution stays one with any tree for a cell that isn't there
+abbrev pub OtherCellsAreOpen : Type 0
+OtherCellsAreOpen = (s : Equations) (solution : ℕ → Term) (c : ℕ) (t : Term) → IsSound s → length s.cells ≤ c → Solves s solution
+    → Solves s (with_tree solution c t)
 
 -- no solution gives a variable the tree of another term in which it occurs
 abbrev pub CyclesHaveNoSolution : Type 0

@@ -1,5 +1,5 @@
 -- What solves equations between cells.
-use Rattle.std.specs.Prelude.{◌≡◌, ℕ, List, Some, All, map, slice_get}
+use Rattle.std.specs.Prelude.{◌≡◌, ℕ, ◌==◌, if◌then◌else◌, List, Some, All, map, slice_get}
 use Rattle.pm_logic.specs.Term.{Term, app, as_terms}
 use Rattle.pm_store.specs.declared.store.Entry.TheVariants.{Application}
 use Rattle.pm_store.specs.Equations.{Equations}
@@ -10,3 +10,7 @@ pub record Solves (s : Equations) (tree : ℕ → Term) : Type 0 where
   pub applications : (cell symbol : ℕ) (args : List ℕ) → slice_get s.cells cell ≡ Some (Application symbol args)
       → tree cell ≡ app symbol (as_terms (map tree args))
   pub bindings : All (λ b. tree b.variable ≡ tree b.target) s.bindings
+
+-- the trees, with this one for a cell
+abbrev pub with_tree : (ℕ → Term) → ℕ → Term → ℕ → Term
+with_tree trees cell t c = if c == cell then t else trees c

@@ -1,5 +1,5 @@
 //! The laws of solutions and of marks: each is what a function without a body ensures.
-ghost use Rattle.pm_store.specs.Laws.{TreesSolve, TreesAreGeneral, CyclesHaveNoSolution, GrowthIsLater, LaterIsTransitive, MarksLast};
+ghost use Rattle.pm_store.specs.Laws.{TreesSolve, TreesAreGeneral, OtherCellsAreOpen, CyclesHaveNoSolution, GrowthIsLater, LaterIsTransitive, MarksLast};
 
 /// A store has a solution: the trees of its cells, in which each free variable stands for itself.
 pub fn trees_solve()
@@ -9,6 +9,11 @@ pub fn trees_solve()
 /// Every solution of a store is an instance of the trees of its cells.
 pub fn trees_are_general()
     ensures { TreesAreGeneral }
+{}
+
+/// A solution of a store stays one with any tree for a cell that the store hasn't.
+pub fn other_cells_are_open()
+    ensures { OtherCellsAreOpen }
 {}
 
 /// No solution gives a variable the tree of another term in which it occurs.

@@ -2,7 +2,7 @@ ghost use Rattle.std.specs.Prelude.{◌≡◌, ◌↔◌, ◌+◌, ◌++◌, ◌
 ghost use Rattle.pm_logic.specs.Term.{Term, app, as_terms};
 ghost use Rattle.pm_store.specs.declared.store.Entry.TheVariants.{Variable, Application};
 ghost use Rattle.pm_store.specs.Equations.{Equations, no_equations, with_cell, with_binding, end_of, free_count};
-ghost use Rattle.pm_store.specs.Solutions.{Solves};
+ghost use Rattle.pm_store.specs.Solutions.{Solves, with_tree};
 ghost use Rattle.pm_store.specs.Trees.{tree};
 ghost use Rattle.pm_store.specs.Sound.{CanBind, IsSound};
 ghost use Rattle.pm_store.specs.Marks.{Counts, counts_of, IsLater, HasMark};
@@ -107,6 +107,7 @@ impl Store {
         ensures place { IfOk result (λ v. v ≡ length self.old.cells) }
         ensures ok { OnOk result (self.new ≡ with_cell self.old Variable) }
         ensures solutions { OnOk result ((trees : ℕ → Term) → Solves self.new trees ↔ Solves self.old trees) }
+        ensures any { IfOk result (λ v. (trees : ℕ → Term) (t : Term) → Solves self.old trees → Solves self.new (with_tree trees v t)) }
         ensures err { OnErr result (self.new ≡ self.old) }
     {
         add_cell(&mut self.cells, &mut self.targets, Entry::Variable)

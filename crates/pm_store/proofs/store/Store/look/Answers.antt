@@ -1,6 +1,7 @@
 use Rattle.std.proofs.Common.{refl, ◌∙◌, arith}
 use Rattle.pm_store.proofs.TreeLemmas.{solved}
-use Rattle.pm_store.proofs.LookLemmas.{sound_of, read_target, place_within, target_follows, target_nearer, ends, end_solved, free_shown, application_solved, application_shown}
+use Rattle.pm_store.proofs.StoredLemmas.{sound_of}
+use Rattle.pm_store.proofs.LookLemmas.{read_target, place_within, target_follows, target_nearer, ends, end_solved, free_shown, application_solved, application_shown}
 use Rattle.pm_store.proofs.store.Store.look.Goals as goal
 
 pub loop-target-init : goal.loop-target-init
