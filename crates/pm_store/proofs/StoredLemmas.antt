@@ -204,7 +204,7 @@ unbound_within cells targets trail trail' v w stored longer same =
     subst (λ (n : ℕ). n < length targets) (sym same) freed.within
 
 -- a cell beyond the cells isn't bound
-unbound_beyond : (cells : List Entry) (bs : List Binding) (v : ℕ) → AreMade cells bs → length cells ≤ v → target_of bs v ≡ None
+pub unbound_beyond : (cells : List Entry) (bs : List Binding) (v : ℕ) → AreMade cells bs → length cells ≤ v → target_of bs v ≡ None
 unbound_beyond cells [] v made beyond = refl
 unbound_beyond cells (b ∷ bs) v made beyond =
     if_other b.variable v (Some b.target) (target_of bs v)

@@ -1,7 +1,7 @@
-ghost use Rattle.std.specs.Prelude.{◌≡◌, ◌↔◌, ◌+◌, ◌++◌, ◌∷◌, ◌<◌, [], ℕ, None, All, IfOk, OnOk, OnErr, length, map};
+ghost use Rattle.std.specs.Prelude.{◌≡◌, ◌↔◌, ◌+◌, ◌++◌, ◌∷◌, ◌<◌, ◌≤◌, [], ℕ, None, All, IfOk, OnOk, OnErr, length, map};
 ghost use Rattle.pm_logic.specs.Term.{Term, app, as_terms};
 ghost use Rattle.pm_store.specs.declared.store.Entry.TheVariants.{Variable, Application};
-ghost use Rattle.pm_store.specs.Equations.{Equations, no_equations, with_cell, with_binding, end_of, free_count};
+ghost use Rattle.pm_store.specs.Equations.{Equations, no_equations, with_cell, with_binding, end_of, IsFree, free_count};
 ghost use Rattle.pm_store.specs.Solutions.{Solves, with_tree};
 ghost use Rattle.pm_store.specs.Trees.{tree};
 ghost use Rattle.pm_store.specs.Sound.{CanBind, IsSound};
@@ -271,6 +271,31 @@ mod tests {
         store.undo(mark);
         assert!(rt; is_free(&store, x, y));
         assert_eq!(rt; store.len(), 2);
+        Ok(())
+    }
+
+    // Binds the variable to a new one, that one to another, and so on; the last of them.
+    fn lengthen(store: &mut Store, v: Addr, times: usize) -> Result<Addr, AllocError>
+        requires { IsFree store.old v }
+        ensures { length store.old.cells ≤ length store.new.cells }
+    {
+        let mut last = v;
+        'links: for _ in 0..times {
+            let _cells = store.len();
+            let next = store.fresh()?;
+            store.bind(last, next)?;
+            last = next;
+        }
+        Ok(last)
+    }
+
+    #[test]
+    fn a_long_chain_is_followed(rt: HostRuntime) -> Result<(), Fail> {
+        let mut store = Store::new(rt.alloc());
+        let x = store.fresh()?;
+        let last = lengthen(&mut store, x, 100_000)?;
+        assert!(rt; is_free(&store, x, last));
+        assert_eq!(rt; store.len(), 100_001);
         Ok(())
     }
 }
