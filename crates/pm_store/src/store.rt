@@ -2,7 +2,7 @@ ghost use Rattle.std.specs.Prelude.{◌≡◌, ◌↔◌, ◌+◌, ◌++◌, ◌
 ghost use Rattle.pm_logic.specs.Term.{Term, app, as_terms};
 ghost use Rattle.pm_store.specs.declared.store.Entry.TheVariants.{Variable, Application};
 ghost use Rattle.pm_store.specs.Equations.{Equations, no_equations, with_cell, with_binding, end_of, IsFree, free_count};
-ghost use Rattle.pm_store.specs.Solutions.{Solves, with_tree};
+ghost use Rattle.pm_store.specs.Solutions.{Solves, Narrows, with_tree};
 ghost use Rattle.pm_store.specs.Trees.{tree};
 ghost use Rattle.pm_store.specs.Sound.{CanBind, IsSound};
 ghost use Rattle.pm_store.specs.Marks.{Counts, counts_of, IsLater, HasMark};
@@ -102,23 +102,26 @@ impl Store {
         self.cells.len()
     }
 
-    /// Adds a free variable, which may have any tree. After want of memory the store is as before.
+    /// Adds a free variable, which may have any tree, and gives its address. After want of memory the
+    /// store is as before.
     pub fn fresh(&mut self) -> Result<Addr, AllocError>
         ensures place { IfOk result (λ v. v ≡ length self.old.cells) }
         ensures ok { OnOk result (self.new ≡ with_cell self.old Variable) }
         ensures solutions { OnOk result ((trees : ℕ → Term) → Solves self.new trees ↔ Solves self.old trees) }
-        ensures any { IfOk result (λ v. (trees : ℕ → Term) (t : Term) → Solves self.old trees → Solves self.new (with_tree trees v t)) }
+        ensures any_tree { IfOk result (λ v. (trees : ℕ → Term) (t : Term) → Solves self.old trees → Solves self.new (with_tree trees v t)) }
         ensures err { OnErr result (self.new ≡ self.old) }
     {
         add_cell(&mut self.cells, &mut self.targets, Entry::Variable)
     }
 
-    /// Adds an application of a symbol to cells. After want of memory the store is as before.
+    /// Adds an application of a symbol to cells of the store, and gives its address: the solutions are
+    /// then the old ones in which the new cell's tree is the symbol over the arguments' trees. After
+    /// want of memory the store is as before.
     pub fn make(&mut self, symbol: u32, args: &[Addr]) -> Result<Addr, AllocError>
         requires { All (λ arg. arg < length self.old.cells) args.now }
         ensures place { IfOk result (λ cell. cell ≡ length self.old.cells) }
         ensures ok { OnOk result (self.new ≡ with_cell self.old (Application symbol args.now)) }
-        ensures solutions { IfOk result (λ cell. (trees : ℕ → Term) → Solves self.new trees ↔ (Solves self.old trees × (trees cell ≡ app symbol (as_terms (map trees args.now))))) }
+        ensures solutions { IfOk result (λ cell. Narrows self.old self.new (λ trees. trees cell ≡ app symbol (as_terms (map trees args.now)))) }
         ensures err { OnErr result (self.new ≡ self.old) }
     {
         let args = Items::from_slice(self.alloc, args)?;
@@ -129,7 +132,8 @@ impl Store {
         )
     }
 
-    /// What is at the end of the bindings from a cell.
+    /// What is at the end of the bindings from a cell: in every solution it has the cell's tree. This
+    /// takes no memory.
     pub fn look(&self, a: Addr) -> Cell<'_>
         requires { a < length self.now.cells }
         ensures shown { Shows self.now (end_of self.now.bindings a) result }
@@ -149,12 +153,12 @@ impl Store {
         }
     }
 
-    /// Binds a free variable to a cell in which it doesn't occur. The solutions are then the old ones in
-    /// which both are equal. After want of memory the store is as before.
+    /// Binds a free variable to a cell in whose tree it doesn't occur. The solutions are then the old
+    /// ones in which both are equal. After want of memory the store is as before.
     pub fn bind(&mut self, v: Addr, t: Addr) -> Result<(), AllocError>
         requires { CanBind self.old v t }
         ensures ok { OnOk result (self.new ≡ with_binding self.old v t) }
-        ensures solutions { OnOk result ((trees : ℕ → Term) → Solves self.new trees ↔ (Solves self.old trees × (trees v ≡ trees t))) }
+        ensures solutions { OnOk result (Narrows self.old self.new (λ trees. trees v ≡ trees t)) }
         ensures free { OnOk result (free_count self.new + 1 ≡ free_count self.old) }
         ensures err { OnErr result (self.new ≡ self.old) }
     {
@@ -163,7 +167,7 @@ impl Store {
         Ok(())
     }
 
-    /// How far the store has come.
+    /// How far the store has come, for `undo`. This takes no memory.
     pub fn mark(&self) -> Mark
         ensures counts { result ≡ counts_of self.now }
         ensures can { HasMark self.now result }
@@ -174,8 +178,8 @@ impl Store {
         }
     }
 
-    /// Takes away what was added since the mark, which this store gave and didn't undo past: the store
-    /// is as it was.
+    /// Takes away the cells and bindings since the mark, which this store gave and didn't undo past: the
+    /// store is as it was. This takes no memory.
     pub fn undo(&mut self, mark: Mark)
         requires { HasMark self.old mark }
         ensures { (before : Equations) → IsLater before self.old → mark ≡ counts_of before → self.new ≡ before }

@@ -11,8 +11,8 @@ returns-clause-solutions c =
     fresh_solutions c.add_cell.result _ _
     (grown c.add_cell.result _ _ _ _ c.self.inside.trail.items Variable _ c.self.view_is c.add_cell.ensures.ok)
 
-pub returns-clause-any : goal.returns-clause-any
-returns-clause-any c =
+pub returns-clause-any_tree : goal.returns-clause-any_tree
+returns-clause-any_tree c =
     let sound = sound_of _ _ _ _ c.self.view_is c.self.invariant in
     fresh_any c.add_cell.result _ _ sound
     (grown c.add_cell.result _ _ _ _ c.self.inside.trail.items Variable _ c.self.view_is c.add_cell.ensures.ok)
