@@ -1,0 +1,9 @@
+pub mod ListLemmas
+pub mod TermLemmas
+pub mod TreeLemmas
+pub mod BindingLemmas
+pub mod SolutionLemmas
+pub mod StoredLemmas
+pub mod LookLemmas
+pub mod MarkLemmas
+pub mod CycleLemmas

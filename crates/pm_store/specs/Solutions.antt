@@ -1,0 +1,20 @@
+-- What solves equations between cells.
+use Rattle.std.specs.Prelude.{◌≡◌, ◌↔◌, ℕ, ◌==◌, if◌then◌else◌, List, Some, All, map, slice_get}
+use Rattle.pm_logic.specs.Term.{Term, app, as_terms}
+use Rattle.pm_store.specs.declared.store.Entry.TheVariants.{Application}
+use Rattle.pm_store.specs.Equations.{Equations}
+
+-- Each cell has a tree: that of an application is its symbol over its arguments' trees, and a bound
+-- variable has the tree of what it is bound to. Trees are finite.
+pub record Solves (s : Equations) (tree : ℕ → Term) : Type 0 where
+  pub applications : (cell symbol : ℕ) (args : List ℕ) → slice_get s.cells cell ≡ Some (Application symbol args)
+      → tree cell ≡ app symbol (as_terms (map tree args))
+  pub bindings : All (λ b. tree b.variable ≡ tree b.target) s.bindings
+
+-- the solutions of the new store are exactly the old one's in which this holds
+abbrev pub Narrows : Equations → Equations → ((ℕ → Term) → Type 0) → Type 0
+Narrows old new holds = (trees : ℕ → Term) → Solves new trees ↔ (Solves old trees × holds trees)
+
+-- the trees, with this one for a cell
+abbrev pub with_tree : (ℕ → Term) → ℕ → Term → ℕ → Term
+with_tree trees cell t c = if c == cell then t else trees c

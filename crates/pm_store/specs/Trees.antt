@@ -1,0 +1,54 @@
+-- The trees of cells in which each free variable stands for itself.
+use Rattle.std.specs.Prelude.{◌≡◌, ℕ, ◌⊎◌, ◌==◌, if◌then◌else◌, List, [], ◌∷◌, ◌++◌, length, map}
+use Rattle.pm_logic.specs.Term.{Term, var, app, Terms, no_terms, more_terms, as_terms, tree_at}
+use Rattle.pm_store.specs.declared.store.Entry.{Entry}
+use Rattle.pm_store.specs.declared.store.Entry.TheVariants.{Variable, Application}
+use Rattle.pm_store.specs.Equations.{Binding, Equations}
+
+-- the tree of the entry at a cell, over the trees of its arguments
+abbrev pub tree_of : (ℕ → Term) → ℕ → Entry → Term
+tree_of tree cell Variable = var cell
+tree_of tree cell (Application symbol args) = app symbol (as_terms (map tree args))
+
+-- the trees of entries, each over those before it
+abbrev pub trees_from : List Term → List Entry → List Term
+trees_from before [] = before
+trees_from before (e ∷ es) = trees_from (before ++ tree_of (tree_at before) (length before) e ∷ []) es
+
+-- a term with another in the place of a variable
+abbrev mutual
+  pub put_at : ℕ → Term → Term → Term
+  put_at v t (var n) = if n == v then t else var n
+  put_at v t (app symbol args) = app symbol (put_at_among v t args)
+
+  pub put_at_among : ℕ → Term → Terms → Terms
+  put_at_among v t no_terms = no_terms
+  put_at_among v t (more_terms u us) = more_terms (put_at v t u) (put_at_among v t us)
+
+-- the tree of a cell: a binding puts its target's tree in the place of its variable
+abbrev pub tree_under : List Entry → List Binding → ℕ → Term
+tree_under cells [] c = tree_at (trees_from [] cells) c
+tree_under cells (b ∷ bs) c = put_at b.variable (tree_under cells bs b.target) (tree_under cells bs c)
+
+abbrev pub tree : Equations → ℕ → Term
+tree s = tree_under s.cells s.bindings
+
+-- a variable occurs in a term
+abbrev mutual
+  pub Occurs : ℕ → Term → Type 0
+  Occurs v (var n) = v ≡ n
+  Occurs v (app symbol args) = OccursAmong v args
+
+  pub OccursAmong : ℕ → Terms → Type 0
+  OccursAmong v no_terms = ⊥
+  OccursAmong v (more_terms t ts) = Occurs v t ⊎ OccursAmong v ts
+
+-- a term with a tree for each of its variables
+abbrev mutual
+  pub fill : (ℕ → Term) → Term → Term
+  fill trees (var n) = trees n
+  fill trees (app symbol args) = app symbol (fill_among trees args)
+
+  pub fill_among : (ℕ → Term) → Terms → Terms
+  fill_among trees no_terms = no_terms
+  fill_among trees (more_terms t ts) = more_terms (fill trees t) (fill_among trees ts)

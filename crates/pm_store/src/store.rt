@@ -1,0 +1,305 @@
+ghost use Rattle.std.specs.Prelude.{◌≡◌, ◌↔◌, ◌+◌, ◌++◌, ◌∷◌, ◌<◌, ◌≤◌, [], ℕ, None, All, IfOk, OnOk, OnErr, length, map};
+ghost use Rattle.pm_logic.specs.Term.{Term, app, as_terms};
+ghost use Rattle.pm_store.specs.declared.store.Entry.TheVariants.{Variable, Application};
+ghost use Rattle.pm_store.specs.Equations.{Equations, no_equations, with_cell, with_binding, end_of, IsFree, free_count};
+ghost use Rattle.pm_store.specs.Solutions.{Solves, Narrows, with_tree};
+ghost use Rattle.pm_store.specs.Trees.{tree};
+ghost use Rattle.pm_store.specs.Sound.{CanBind, IsSound};
+ghost use Rattle.pm_store.specs.Marks.{Counts, counts_of, IsLater, HasMark};
+ghost use Rattle.pm_store.specs.View.{Shows, shown_tree};
+
+use sqlite_items::Items;
+use std::alloc::{AllocError, Global};
+use std::marker::Model;
+
+/// A cell of a store.
+#[derive(Clone, Copy, Debug, Default, PartialEq, Eq, Hash)]
+pub struct Addr(usize);
+
+impl Model for Addr {
+    ghost use Rattle.std.specs.Prelude.{ℕ};
+
+    ghost Value = { ℕ };
+
+    ghost view = { λ a. a.0 };
+
+    ghost inverse = { λ n. record { 0 = n } };
+}
+
+/// What a cell is when it is made.
+#[derive(Debug, Drop)]
+enum Entry {
+    Variable,
+    Application(u32, Items<Addr>),
+}
+
+/// What is at the end of the bindings from a cell: a free variable, or a symbol with arguments.
+#[derive(Clone, Copy, Debug)]
+pub enum Cell<'a> {
+    Free(Addr),
+    App { symbol: u32, args: &'a [Addr] },
+}
+
+/// How far a store had come: seen as how many cells and bindings it had.
+#[derive(Clone, Copy, Debug)]
+pub struct Mark {
+    cells: usize,
+    bindings: usize,
+}
+
+impl Model for Mark {
+    ghost use Rattle.pm_store.specs.Marks.{Counts};
+
+    ghost Value = { Counts };
+
+    ghost view = { λ a. record { cells = a.cells; bindings = a.bindings } };
+
+    ghost inverse = { λ c. record { cells = c.cells; bindings = c.bindings } };
+}
+
+/// Equations between cells: seen as the list of cells, each a variable or an application, and the
+/// list of bindings of variables, newest first.
+#[derive(Drop)]
+pub struct Store {
+    alloc: Global,
+    cells: Vec<Entry>,
+    // What each cell is bound to.
+    targets: Vec<Option<Addr>>,
+    // The bound variables, in the order of their binding.
+    trail: Vec<Addr>,
+}
+
+impl Model for Store {
+    ghost use Rattle.pm_store.specs.Equations.{Equations};
+
+    ghost Value = { Equations };
+
+    ghost use Rattle.pm_store.specs.Stored.{equations_of, IsStored};
+
+    ghost view = { λ a. equations_of a.cells.items a.targets.items a.trail.items };
+
+    ghost invariant = { λ a. IsStored a.cells.items a.targets.items a.trail.items };
+}
+
+impl Store {
+    /// A store with no cells.
+    pub fn new(alloc: Global) -> Store
+        ensures { result ≡ no_equations }
+    {
+        Store {
+            alloc,
+            cells: Vec::new(alloc),
+            targets: Vec::new(alloc),
+            trail: Vec::new(alloc),
+        }
+    }
+
+    /// How many cells there are.
+    pub fn len(&self) -> usize
+        ensures count { result ≡ length self.now.cells }
+        ensures sound { IsSound self.now }
+    {
+        self.cells.len()
+    }
+
+    /// Adds a free variable, which may have any tree, and gives its address. After want of memory the
+    /// store is as before.
+    pub fn fresh(&mut self) -> Result<Addr, AllocError>
+        ensures place { IfOk result (λ v. v ≡ length self.old.cells) }
+        ensures ok { OnOk result (self.new ≡ with_cell self.old Variable) }
+        ensures solutions { OnOk result ((trees : ℕ → Term) → Solves self.new trees ↔ Solves self.old trees) }
+        ensures any_tree { IfOk result (λ v. (trees : ℕ → Term) (t : Term) → Solves self.old trees → Solves self.new (with_tree trees v t)) }
+        ensures err { OnErr result (self.new ≡ self.old) }
+    {
+        add_cell(&mut self.cells, &mut self.targets, Entry::Variable)
+    }
+
+    /// Adds an application of a symbol to cells of the store, and gives its address: the solutions are
+    /// then the old ones in which the new cell's tree is the symbol over the arguments' trees. After
+    /// want of memory the store is as before.
+    pub fn make(&mut self, symbol: u32, args: &[Addr]) -> Result<Addr, AllocError>
+        requires { All (λ arg. arg < length self.old.cells) args.now }
+        ensures place { IfOk result (λ cell. cell ≡ length self.old.cells) }
+        ensures ok { OnOk result (self.new ≡ with_cell self.old (Application symbol args.now)) }
+        ensures solutions { IfOk result (λ cell. Narrows self.old self.new (λ trees. trees cell ≡ app symbol (as_terms (map trees args.now)))) }
+        ensures err { OnErr result (self.new ≡ self.old) }
+    {
+        let args = Items::from_slice(self.alloc, args)?;
+        add_cell(
+            &mut self.cells,
+            &mut self.targets,
+            Entry::Application(symbol, args),
+        )
+    }
+
+    /// What is at the end of the bindings from a cell: in every solution it has the cell's tree. This
+    /// takes no memory.
+    pub fn look(&self, a: Addr) -> Cell<'_>
+        requires { a < length self.now.cells }
+        ensures shown { Shows self.now (end_of self.now.bindings a) result }
+        ensures tree { tree self.now a ≡ shown_tree (tree self.now) result }
+        ensures solutions { (trees : ℕ → Term) → Solves self.now trees → trees a ≡ shown_tree trees result }
+    {
+        let mut at = a;
+        while let Some(target) = self.targets[at.0] {
+            at = target;
+        }
+        match &self.cells[at.0] {
+            Entry::Variable => Cell::Free(at),
+            Entry::Application(symbol, args) => Cell::App {
+                symbol: *symbol,
+                args: args.as_slice(),
+            },
+        }
+    }
+
+    /// Binds a free variable to a cell in whose tree it doesn't occur. The solutions are then the old
+    /// ones in which both are equal. After want of memory the store is as before.
+    pub fn bind(&mut self, v: Addr, t: Addr) -> Result<(), AllocError>
+        requires { CanBind self.old v t }
+        ensures ok { OnOk result (self.new ≡ with_binding self.old v t) }
+        ensures solutions { OnOk result (Narrows self.old self.new (λ trees. trees v ≡ trees t)) }
+        ensures free { OnOk result (free_count self.new + 1 ≡ free_count self.old) }
+        ensures err { OnErr result (self.new ≡ self.old) }
+    {
+        self.trail.push(v)?;
+        self.targets[v.0] = Some(t);
+        Ok(())
+    }
+
+    /// How far the store has come, for `undo`. This takes no memory.
+    pub fn mark(&self) -> Mark
+        ensures counts { result ≡ counts_of self.now }
+        ensures can { HasMark self.now result }
+    {
+        Mark {
+            cells: self.cells.len(),
+            bindings: self.trail.len(),
+        }
+    }
+
+    /// Takes away the cells and bindings since the mark, which this store gave and didn't undo past: the
+    /// store is as it was. This takes no memory.
+    pub fn undo(&mut self, mark: Mark)
+        requires { HasMark self.old mark }
+        ensures { (before : Equations) → IsLater before self.old → mark ≡ counts_of before → self.new ≡ before }
+    {
+        while self.trail.len() > mark.bindings {
+            if let Some(v) = self.trail.pop() {
+                self.targets[v.0] = None;
+            }
+        }
+        self.cells.truncate(mark.cells);
+        self.targets.truncate(mark.cells);
+    }
+}
+
+// Adds a cell that isn't bound. After want of memory nothing has changed.
+fn add_cell(
+    cells: &mut Vec<Entry>,
+    targets: &mut Vec<Option<Addr>>,
+    entry: Entry,
+) -> Result<Addr, AllocError>
+    ensures place { IfOk result (λ cell. cell ≡ length cells.old.items) }
+    ensures ok { OnOk result ((cells.new.items ≡ cells.old.items ++ entry ∷ []) × (targets.new.items ≡ targets.old.items ++ None ∷ [])) }
+    ensures err { OnErr result ((cells.new.items ≡ cells.old.items) × (targets.new.items ≡ targets.old.items)) }
+{
+    cells.reserve(1)?;
+    targets.push(None)?;
+    let cell = Addr(cells.len());
+    cells.push_reserved(entry);
+    Ok(cell)
+}
+
+#[cfg(test)]
+mod tests {
+    use super::*;
+    use std::test::Fail;
+
+    // The symbols a and f.
+    const A: u32 = 1;
+
+    const F: u32 = 2;
+
+    fn is_free(store: &Store, a: Addr, v: Addr) -> bool
+        requires { a < length store.now.cells }
+    {
+        match store.look(a) {
+            Cell::Free(w) => w == v,
+            Cell::App { .. } => false,
+        }
+    }
+
+    fn is_application(store: &Store, a: Addr, symbol: u32, args: &[Addr]) -> bool
+        requires { a < length store.now.cells }
+    {
+        match store.look(a) {
+            Cell::Free(_) => false,
+            Cell::App {
+                symbol: f,
+                args: shown,
+            } => f == symbol && shown == args,
+        }
+    }
+
+    #[test]
+    fn a_bound_variable_is_freed(rt: HostRuntime) -> Result<(), Fail> {
+        let mut store = Store::new(rt.alloc());
+        let x = store.fresh()?;
+        let y = store.fresh()?;
+        let a = store.make(A, &[])?;
+        assert!(rt; is_free(&store, x, x));
+        let mark = store.mark();
+        store.bind(x, a)?;
+        assert!(rt; is_application(&store, x, A, &[]));
+        assert!(rt; is_free(&store, y, y));
+        store.undo(mark);
+        assert!(rt; is_free(&store, x, x));
+        assert_eq!(rt; store.len(), 3);
+        Ok(())
+    }
+
+    #[test]
+    fn bindings_are_followed_to_their_end(rt: HostRuntime) -> Result<(), Fail> {
+        let mut store = Store::new(rt.alloc());
+        let x = store.fresh()?;
+        let y = store.fresh()?;
+        store.bind(x, y)?;
+        assert!(rt; is_free(&store, x, y));
+        let mark = store.mark();
+        let a = store.make(A, &[])?;
+        let t = store.make(F, &[x, a])?;
+        store.bind(y, a)?;
+        assert!(rt; is_application(&store, x, A, &[]));
+        assert!(rt; is_application(&store, t, F, &[x, a]));
+        store.undo(mark);
+        assert!(rt; is_free(&store, x, y));
+        assert_eq!(rt; store.len(), 2);
+        Ok(())
+    }
+
+    // Binds the variable to a new one, that one to another, and so on; the last of them.
+    fn lengthen(store: &mut Store, v: Addr, times: usize) -> Result<Addr, AllocError>
+        requires { IsFree store.old v }
+        ensures { length store.old.cells ≤ length store.new.cells }
+    {
+        let mut last = v;
+        'links: for _ in 0..times {
+            let _cells = store.len();
+            let next = store.fresh()?;
+            store.bind(last, next)?;
+            last = next;
+        }
+        Ok(last)
+    }
+
+    #[test]
+    fn a_long_chain_is_followed(rt: HostRuntime) -> Result<(), Fail> {
+        let mut store = Store::new(rt.alloc());
+        let x = store.fresh()?;
+        let last = lengthen(&mut store, x, 100_000)?;
+        assert!(rt; is_free(&store, x, last));
+        assert_eq!(rt; store.len(), 100_001);
+        Ok(())
+    }
+}
