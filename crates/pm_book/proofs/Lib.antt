@@ -5,3 +5,8 @@ pub mod Kept
 pub mod Always
 pub mod Counts
 pub mod Exhaustion
+pub mod Places
+pub mod PutRows
+pub mod Moves
+pub mod Surveyed
+pub mod FoundRows

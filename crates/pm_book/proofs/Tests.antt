@@ -2,11 +2,13 @@
 use Rattle.std.proofs.Common.{◌≡◌, ℕ, ◌⊎◌, ◌∙◌, Bool, true, false, List, [], ◌∷◌, refl, sym, ap, subst, inl, inr, arith}
 use Rattle.std.specs.Prelude.{◌↔◌, ◌&&◌, ◌||◌, ◌==◌, not, if◌then◌else◌, Option, Some, None, nat_le, ◌≤◌}
 use Rattle.std.proofs.lemmas.Bool.Decides.{nat_tests}
-use Rattle.std.specs.Ordering.{nat_cmp, is_lt}
+use Rattle.std.specs.declared.cmp.Ordering.{Ordering}
+use Rattle.std.specs.declared.cmp.Ordering.TheVariants.{Less, Equal, Greater}
+use Rattle.std.specs.Ordering.{nat_cmp, is_lt, is_eq}
 use Rattle.std.specs.Cmp.Lexicographic.{slice_cmp}
 use Rattle.pm_choice.specs.declared.Bound.{Bound}
 use Rattle.pm_choice.specs.declared.Bound.TheVariants.{At, End}
-use Rattle.pm_choice.specs.Order.{Precedes, PrecedesBound, IsWithin}
+use Rattle.pm_choice.specs.Order.{IsOrderOf, Precedes, PrecedesBound, IsWithin}
 use Rattle.pm_choice.proofs.OrderLemmas.{compared, less_precedes, irreflexive, transitive, not_below, below_bound}
 use Rattle.pm_book.specs.Rows.{is_before, is_below, is_within, is_above}
 use Rattle.pm_book.specs.Steps.{where_true}
@@ -61,3 +63,19 @@ where_is false value other e = absurd cc
 pub above_more : (best : Option (List ℕ)) (low high : List ℕ) → is_above best low ≡ true → Precedes low high → is_above best high ≡ true
 above_more None low high e p = absurd cc
 above_more (Some path) low high e p = (before_is path high).1 (transitive path low high ((before_is path low).0 e) p)
+
+-- two tests that are true of the same are the same
+same_tests : (p q : Bool) (A B : Type 0) → (p ≡ true) ↔ A → (q ≡ true) ↔ B → (A → B) → (B → A) → p ≡ q
+same_tests true true A B f g to back = refl
+same_tests false false A B f g to back = refl
+same_tests true false A B f g to back = sym (g.1 (to (f.0 refl)))
+same_tests false true A B f g to back = f.1 (back (g.0 refl))
+
+-- what a comparison tells
+pub order_tells : (r : Ordering) (a b : List ℕ) → IsOrderOf r a b → is_lt r ≡ is_before a b
+order_tells r a b is = same_tests (is_lt r) (is_before a b) (Precedes a b) (Precedes a b) (less_precedes r a b is) (before_is a b) (λ p. p) (λ p. p)
+
+pub order_equal : (r : Ordering) (a b : List ℕ) → IsOrderOf r a b → (is_eq r ≡ true) ↔ (a ≡ b)
+order_equal Less a b is = (λ e. absurd cc, λ same. absurd (irreflexive b (subst (λ (l : List ℕ). Precedes l b) same is)))
+order_equal Equal a b is = (λ e. is, λ same. refl)
+order_equal Greater a b is = (λ e. absurd cc, λ same. absurd (irreflexive b (subst (λ (l : List ℕ). Precedes b l) same is)))

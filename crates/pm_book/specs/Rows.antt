@@ -1,5 +1,5 @@
 -- A task book as callers see it: rows in the order of their intervals, the best path, and a history.
-use Rattle.std.specs.Prelude.{◌≡◌, ℕ, ◌<◌, Bool, true, false, ◌&&◌, not, ◌==◌, if◌then◌else◌, List, [], ◌∷◌, map, Option, Some, None}
+use Rattle.std.specs.Prelude.{◌≡◌, ℕ, ◌<◌, Bool, true, false, ◌&&◌, ◌||◌, not, ◌==◌, if◌then◌else◌, List, [], ◌∷◌, map, Option, Some, None}
 use Rattle.std.specs.List.{sum_by, count_by}
 use Rattle.std.specs.Ordering.{nat_cmp, is_lt}
 use Rattle.std.specs.Cmp.Lexicographic.{slice_cmp}
@@ -25,6 +25,15 @@ pub record State : Type 0 where
   pub budget : ℕ
   pub cuts : List (List ℕ)
   pub events : List Event
+
+-- what a ticket names: the number of a row, and its interval
+pub record Span : Type 0 where
+  pub number : ℕ
+  pub from : List ℕ
+  pub to : Bound
+
+abbrev pub span_of : Row → Span
+span_of row = record { number = row.number; from = row.from; to = row.to }
 
 -- the test whether a list precedes another in the order of choice lists
 unfoldable pub is_before : List ℕ → List ℕ → Bool
@@ -60,6 +69,10 @@ work_of state = 0
 abbrev pub is_above : Option (List ℕ) → List ℕ → Bool
 is_above None list = false
 is_above (Some best) list = is_before best list
+
+-- a row that is still to be done: Queued or Running, and not above best
+abbrev pub is_open : Option (List ℕ) → Row → Bool
+is_open best row = (is_queued row.state || is_running row.state) && not (is_above best row.from)
 
 -- the work that counts of a row: that of a Done row that isn't above best
 abbrev pub counted_work : Option (List ℕ) → Row → ℕ

@@ -2,7 +2,13 @@
 #![tactic(auto)]
 
 mod event;
+mod order;
+mod replay;
 mod row;
+mod tables;
+mod ticket;
 
 pub use event::Event;
+pub use replay::ReplayFault;
 pub use row::{BookRow, RowState};
+pub use ticket::{Claimed, Ended, SplitReply, Taken, Ticket};
