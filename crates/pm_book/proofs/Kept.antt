@@ -84,11 +84,11 @@ tile_after book change row before after may round =
       | finds path work ↦ λ t. tile_dropped (Some path) (At []) End (changed_rows book (finds path work) row before after) t
     ] whole
 
-count_append : (n : ℕ) (xs ys : List Row) → count_of n (xs ++ ys) ≡ count_of n xs + count_of n ys
+pub count_append : (n : ℕ) (xs ys : List Row) → count_of n (xs ++ ys) ≡ count_of n xs + count_of n ys
 count_append n xs ys =
     ap (count_by (λ m. m == n)) (map-append (λ (row : Row). row.number) xs ys) ∙ sum_by-append (λ m. cond (m == n) 1 0) (map (λ (row : Row). row.number) xs) (map (λ (row : Row). row.number) ys)
 
-count_cons : (n : ℕ) (x : Row) (xs : List Row) → count_of n (x ∷ xs) ≡ (cond (x.number == n) 1 0) + count_of n xs
+pub count_cons : (n : ℕ) (x : Row) (xs : List Row) → count_of n (x ∷ xs) ≡ (cond (x.number == n) 1 0) + count_of n xs
 count_cons n x xs = sum_by-cons (λ m. cond (m == n) 1 0) x.number (map (λ (row : Row). row.number) xs)
 
 count_dropped : (best : Option (List ℕ)) (n : ℕ) (rows : List Row) → count_of n (map (drop_above best) rows) ≡ count_of n rows

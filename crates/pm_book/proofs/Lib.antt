@@ -10,3 +10,6 @@ pub mod PutRows
 pub mod Moves
 pub mod Surveyed
 pub mod FoundRows
+pub mod Replays
+pub mod BookLemmas
+pub mod BestLemmas

@@ -6,7 +6,7 @@ use Rattle.pm_choice.specs.declared.Bound.TheVariants.{At, End}
 use Rattle.pm_choice.specs.Order.{Precedes, PrecedesBound}
 use Rattle.pm_book.specs.declared.row.RowState.{RowState}
 use Rattle.pm_book.specs.declared.event.Event.{Event}
-use Rattle.pm_book.specs.declared.event.Event.TheVariants.{Took, Claimed, Split as SplitEvent}
+use Rattle.pm_book.specs.declared.event.Event.TheVariants.{Took, Claimed, Split as SplitEvent, Found}
 use Rattle.pm_book.specs.declared.ticket.Taken.{Taken}
 use Rattle.pm_book.specs.declared.ticket.Taken.TheVariants.{Task, Idle, Over}
 use Rattle.pm_book.specs.declared.ticket.Claimed.{Claimed as ClaimedAnswer}
@@ -15,9 +15,12 @@ use Rattle.pm_book.specs.declared.ticket.SplitReply.{SplitReply}
 use Rattle.pm_book.specs.declared.ticket.SplitReply.TheVariants.{Split, Unknown, OutOfRange}
 use Rattle.pm_book.specs.declared.ticket.Ended.{Ended}
 use Rattle.pm_book.specs.declared.ticket.Ended.TheVariants.{Kept, Dropped, Unknown as UnknownTicket}
-use Rattle.pm_book.specs.declared.replay.ReplayFault.{ReplayFault}
-use Rattle.pm_book.specs.declared.replay.ReplayFault.TheVariants.{Illegal, Memory}
+use Rattle.pm_book.specs.declared.history.ReplayFault.{ReplayFault}
+use Rattle.pm_book.specs.declared.history.ReplayFault.TheVariants.{Illegal, Memory}
 use Rattle.pm_book.specs.Rows.{Row, State, Span, span_of, is_queued, is_running, is_above, is_open, spent}
+use Rattle.pm_book.specs.declared.tables.Tables.{Tables}
+use Rattle.pm_book.specs.declared.tables.Spot.{Spot}
+use Rattle.pm_book.specs.Seen.{row_seen, IsRunningSpot}
 use Rattle.pm_book.specs.Steps.{is_about, step, next, replayed, new_book}
 
 -- The book is over where it has spent more than its budget, or no row is to be done.
@@ -82,3 +85,21 @@ pub record IsFirstIllegal (budget : ℕ) (cuts : List (List ℕ)) (events : List
 abbrev pub FailsBy : ℕ → List (List ℕ) → List Event → ReplayFault → Type 0
 FailsBy budget cuts events (Illegal place) = IsFirstIllegal budget cuts events place
 FailsBy budget cuts events Memory = Unit {0}
+
+-- whether an event was a step, and what it left
+abbrev pub HasApplied : State → Event → Option (List ℕ) → State → Bool → Type 0
+HasApplied old event cut new true = step old event cut ≡ Some new
+HasApplied old event cut new false = step old event cut ≡ None
+
+abbrev pub is_find : Event → Bool
+is_find (Found row cut work) = true
+is_find event = false
+
+-- no path was found in the history
+abbrev pub NoneFound : State → Type 0
+NoneFound book = All (λ event. is_find event ≡ false) book.events
+
+-- a spot is that of a ticket's row
+pub record IsSpotOf (t : Tables) (ticket : Span) (spot : Spot) : Type 0 where
+  pub running : IsRunningSpot t spot
+  pub is : span_of (row_seen t.cuts.items spot.row) ≡ ticket

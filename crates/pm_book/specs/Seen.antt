@@ -11,6 +11,7 @@ use Rattle.pm_book.specs.declared.event.Event.{Event}
 use Rattle.pm_book.specs.declared.tables.Tables.{Tables}
 use Rattle.pm_book.specs.declared.tables.Spot.{Spot}
 use Rattle.pm_book.specs.declared.tables.Survey.{Survey}
+use Rattle.pm_book.specs.Steps.{IsReplay}
 use Rattle.pm_book.specs.Rows.{Row, State, is_running, is_queued, is_before, work_of, spent, is_open}
 
 -- the lower end of a row, from its place among the cuts
@@ -109,3 +110,8 @@ pub record Surveys (t : Tables) (survey : Survey) : Type 0 where
 pub record IsRunningSpot (t : Tables) (spot : Spot) : Type 0 where
   pub first : IsFirstSpot (λ row. row.number == spot.row.number) t.rows.items spot
   pub runs : is_running spot.row.state ≡ true
+
+-- what holds of the tables of a book: they are kept, and stand for the replay of their own history
+pub record IsSound (t : Tables) : Type 0 where
+  pub kept : AreKept t
+  pub replay : IsReplay (seen t)

@@ -2,7 +2,7 @@
 #![tactic(auto)]
 
 ghost use Rattle.std.specs.Prelude.{◌≡◌, ℕ, ◌+◌, ◌-◌, ◌*◌, ◌^◌, ◌<◌, ◌≤◌, ◌↔◌, ◌==◌, ◌&&◌, IsTrue, Some, None, true, false, [], ◌∷◌, ◌++◌, map, length, take, drop, slice_get, All, MatchOption, MatchBool, IfOk, IfSome, OnOk, OnErr, vec_len, vec_capacity, option_to_list, slice_index_or};
-ghost use Rattle.pm_choice.specs.declared.Bound.TheVariants.{At};
+ghost use Rattle.std.specs.List.{count_by};
 ghost use Rattle.pm_book.specs.declared.event.Event.TheVariants.{Took, Claimed, Split, Returned, Closed, Found};
 ghost use Rattle.pm_book.specs.Rows.{is_running, is_queued, is_found, is_below, is_above, is_before, is_within, spent, work_of};
 ghost use Rattle.pm_book.specs.Steps.{step, new_book, may_return};
@@ -304,6 +304,13 @@ impl Tables {
         push_cut(&mut self.cuts, cut);
         self.events.push_reserved(event);
         self.running = self.running + running_of(row.state) - running_of(spot.row.state);
+    }
+
+    /// The number of Queued rows.
+    pub fn queued(&self) -> usize
+        ensures { result ≡ count_by (λ row. is_queued row.state) self.now.rows.items }
+    {
+        self.rows.iter().filter(|row| is_queued(row.state)).count()
     }
 
     /// Takes the first Queued row.

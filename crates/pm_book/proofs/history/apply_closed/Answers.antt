@@ -1,0 +1,20 @@
+use Rattle.std.proofs.Common.{◌≡◌, ◌∙◌, ℕ, List, ap, sym, refl, true, false, [], ◌∷◌, length}
+use Rattle.std.specs.Prelude.{Some, None, ◌==◌, ◌&&◌}
+use Rattle.pm_book.specs.declared.row.RowState.TheVariants.{Queued, Running, Done}
+use Rattle.pm_book.specs.declared.event.Event.TheVariants.{Claimed, Closed, Split, Returned, Found}
+use Rattle.pm_book.specs.Rows.{is_queued, is_running, is_before, is_below, is_within}
+use Rattle.pm_book.specs.Steps.{with_state, ended, returned, part_below, part_from, drop_above, is_next_cut, may_return}
+use Rattle.pm_book.specs.Seen.{seen, row_seen, lower, upper}
+use Rattle.pm_book.proofs.Moves.{spot_places}
+use Rattle.pm_book.proofs.BookLemmas.{unfound, refused, where_fails, after_fails}
+use Rattle.pm_book.proofs.history.apply_closed.Goals as goal
+
+pub returns-in_default-clause-applied : goal.returns-in_default-clause-applied
+returns-in_default-clause-applied c = unfound c.args.tables.now (λ row. row.number == c.args.row) (Closed c.args.row c.args.work) None (λ r. refl) c.in_default.ensures
+
+pub returns-then-not-is_running-clause-applied : goal.returns-then-not-is_running-clause-applied
+returns-then-not-is_running-clause-applied c =
+    let t = c.args.tables.now in
+    let spot = c.in-Some.spot in
+    refused t spot (λ row. row.number == c.args.row) (Closed c.args.row c.args.work) None (λ r. refl) c.in-Some.ensures
+    (where_fails (is_running spot.row.state) (ended (seen t).best (row_seen t.cuts.items spot.row) (with_state (Done c.args.work false) (row_seen t.cuts.items spot.row) ∷ [])) (sym c.is_running.ensures ∙ c.if-not-is_running.true))
