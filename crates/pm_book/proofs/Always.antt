@@ -1,23 +1,20 @@
 -- What always holds of a book: queued and dropped rows, best, and all of it after each list of events.
-use Rattle.std.proofs.Common.{◌≡◌, ℕ, ◌<◌, ◌⊎◌, ◌∙◌, Bool, true, false, List, [], ◌∷◌, ◌++◌, length, map, refl, sym, ap, subst, inl, inr, arith, get_or}
-use Rattle.std.specs.Prelude.{Option, Some, None, All, Contains, ◌&&◌, nat_lt, if◌then◌else◌}
-use Rattle.std.specs.List.{find}
+use Rattle.std.proofs.Common.{◌≡◌, ℕ, ◌∙◌, Bool, true, false, List, [], ◌∷◌, ◌++◌, length, map, refl, sym, ap, subst, inl, inr, arith, get_or}
+use Rattle.std.specs.Prelude.{Option, Some, None, All, Contains, nat_lt, if◌then◌else◌}
 use Rattle.std.proofs.lemmas.List.{map-append}
-use Rattle.std.proofs.lemmas.List.Elements.{All-nil, All-cons, All-weaker, All-append, All-map, All-contains, Contains-append_left, Contains-append_right}
+use Rattle.std.proofs.lemmas.List.Elements.{All-nil, All-cons, All-append, All-map, Contains-append_left, Contains-append_right}
 use Rattle.std.proofs.lemmas.Bool.Decides.{nat_tests}
 use Rattle.pm_choice.specs.declared.Bound.{Bound}
 use Rattle.pm_choice.specs.declared.Bound.TheVariants.{At, End}
-use Rattle.pm_choice.specs.Order.{Precedes, PrecedesBound, IsWithin}
-use Rattle.pm_choice.proofs.OrderLemmas.{below_bound}
 use Rattle.pm_book.specs.declared.row.RowState.{RowState}
 use Rattle.pm_book.specs.declared.row.RowState.TheVariants.{Queued, Running, Done, Dropped}
 use Rattle.pm_book.specs.declared.event.Event.{Event}
 use Rattle.pm_book.specs.Rows.{Row, State, Tile, is_queued, is_running, is_found, is_above, count_of}
-use Rattle.pm_book.specs.Steps.{new_book, with_state, part_below, part_from, drop_above, with_best, recorded, step, next, replayed, cut_of, parts_after, is_about}
-use Rattle.pm_book.specs.Always.{IsPlaced, HoldsPath, HasBest, AlwaysHolds, IsInOne, Covers, EachReplayHolds, EachListIsInOneRow, EachEventCoversItsRow}
-use Rattle.pm_book.proofs.Tests.{bool_cases, before_is, above_more}
+use Rattle.pm_book.specs.Steps.{new_book, with_state, part_below, part_from, drop_above, with_best, recorded, step, replayed, cut_of, is_about}
+use Rattle.pm_book.specs.Always.{IsPlaced, HasBest, AlwaysHolds, Covers, EachReplayHolds, EachListIsInOneRow, EachEventCoversItsRow}
+use Rattle.pm_book.proofs.OrderTests.{before_is, above_more}
 use Rattle.pm_book.proofs.Tiles.{tile_round, TilesRound, ends_before, begins_after, none_empty, in_one, covers}
-use Rattle.pm_book.proofs.Changes.{Change, IsAllowed, parts_of, best_of, Changes, change_of, IsFirstOf, first_found, Stepped, stepped}
+use Rattle.pm_book.proofs.Changes.{Change, IsAllowed, parts_of, best_of, change_of, first_found, Stepped, stepped}
 use Rattle.pm_book.proofs.Changes.Change.{starts, divides, drops, requeues, gives_back, closes, finds}
 use Rattle.pm_book.proofs.Kept.{changed_rows, rows_after, best_after, tile_after, parts_tile, numbered_after, running_is, all_left, all_right, where_in, best_beyond}
 
@@ -72,11 +69,11 @@ found_placed book path work row before after is round may placed =
     All-map (Placed (Some path)) (drop_above (Some path)) (changed_rows book (finds path work) row before after)
     (All-append P before (with_state (Done work true) row ∷ after)
     (λ k d less. drop_placed (Some path) (get_or before k d).number (get_or before k d).from (get_or before k d).to (get_or before k d).state
-        (λ e. absurd (let above = above_more book.best (get_or before k d).from row.from (dropped_above book.best (get_or before k d).from (get_or before k d).state (old k d less) e) (ends k d less (get_or before k d).from (full k d less)) in
-            let not_above = may.1 in cc)))
+    (λ e. absurd (let above = above_more book.best (get_or before k d).from row.from (dropped_above book.best (get_or before k d).from (get_or before k d).state (old k d less) e) (ends k d less (get_or before k d).from (full k d less)) in
+    let not_above = may.1 in cc)))
     (All-cons P (with_state (Done work true) row) after tt
     (λ k d less. drop_placed (Some path) (get_or after k d).number (get_or after k d).from (get_or after k d).to (get_or after k d).state
-        (λ e. (before_is path (get_or after k d).from).1 (begins k d less path may.2.below)))))
+    (λ e. (before_is path (get_or after k d).from).1 (begins k d less path may.2.below)))))
 
 placed_after : (book : State) (change : Change) (row : Row) (before after : List Row) → book.rows ≡ before ++ row ∷ after → TilesRound (At []) End before row after
     → IsAllowed book change row → AlwaysHolds book → All (Placed (best_after book change)) (rows_after book change row before after)

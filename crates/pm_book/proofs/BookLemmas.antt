@@ -2,17 +2,13 @@
 use Rattle.std.proofs.Common.{◌≡◌, ℕ, zero, suc, ◌+◌, ◌<◌, ◌≤◌, ◌⊎◌, ◌∙◌, Bool, true, false, cond, List, [], ◌∷◌, ◌++◌, length, take, drop, map, refl, sym, ap, subst, inl, inr, arith}
 use Rattle.std.specs.Prelude.{Option, Some, None, All, Contains, slice_get, ◌==◌, ◌&&◌, ◌||◌, ◌↔◌, not, nat_lt, if◌then◌else◌, IsTrue, IsFalse, Result, Ok, Err, OnErr}
 use Rattle.std.proofs.lemmas.Bool.{cases_lt}
-use Rattle.std.specs.List.{find, count_by, sum_by}
-use Rattle.std.specs.Option.{option_to_list}
-use Rattle.std.proofs.lemmas.List.Elements.{All-contains, All-map, Contains-append_left, Contains-append_right, Contains-append_cases}
-use Rattle.std.proofs.lemmas.List.Sums.{sum_by-append, sum_by-cons}
-use Rattle.std.proofs.lemmas.List.{map-append}
+use Rattle.std.specs.List.{find}
+use Rattle.std.proofs.lemmas.List.Elements.{All-contains, Contains-append_right, Contains-append_cases}
 use Rattle.std.proofs.lemmas.Bool.Decides.{nat_tests}
 use Rattle.pm_choice.specs.declared.Bound.{Bound}
 use Rattle.pm_choice.specs.declared.Bound.TheVariants.{At, End}
 use Rattle.pm_choice.specs.Order.{Precedes, PrecedesBound, IsWithin}
 use Rattle.pm_choice.proofs.OrderLemmas.{not_below}
-use Rattle.pm_book.specs.declared.row.RowState.{RowState}
 use Rattle.pm_book.specs.declared.row.BookRow.{BookRow}
 use Rattle.pm_book.specs.declared.event.Event.{Event}
 use Rattle.pm_book.specs.declared.tables.Tables.{Tables}
@@ -21,14 +17,14 @@ use Rattle.pm_book.specs.declared.tables.Survey.{Survey}
 use Rattle.pm_book.specs.Rows.{Row, State, Span, span_of, Tile, is_before, is_below, is_within, is_queued, is_running, is_above, count_of, spent}
 use Rattle.pm_book.specs.Steps.{where_true, is_about, parts_after, may_return, step, IsReplay}
 use Rattle.pm_book.specs.Always.{AlwaysHolds}
-use Rattle.pm_book.specs.Seen.{lower, upper, row_seen, seen, HasPlaces, AreKept, IsFirstSpot, IsRunningSpot, IsSound, Surveys}
-use Rattle.pm_book.specs.Answers.{Knows, IsSpotOf, IsQueuedAt, HasStarted, IsOver, NoneQueued, IsInside}
-use Rattle.pm_book.proofs.Tests.{bool_cases, before_is, below_is, not_before_is, is_not_before, and_is, not_is}
-use Rattle.pm_book.proofs.Tiles.{tile_round, TilesRound}
+use Rattle.pm_book.specs.Seen.{lower, upper, row_seen, seen, AreKept, IsFirstSpot, IsSound, Surveys}
+use Rattle.pm_book.specs.Answers.{Knows, IsSpotOf, HasStarted, IsOver, NoneQueued, IsInside}
+use Rattle.pm_book.proofs.OrderTests.{bool_cases, before_is, below_is, not_before_is, is_not_before, and_is, not_is}
+use Rattle.pm_book.proofs.Tiles.{tile_round}
 use Rattle.pm_book.proofs.Kept.{count_append, count_cons, where_in}
 use Rattle.pm_book.proofs.Always.{each_replay_holds}
 use Rattle.pm_book.proofs.Places.{seen_split, all_seen, find_at, no_row, no_parts}
-use Rattle.pm_book.proofs.Moves.{same_self, all_at, and_holds}
+use Rattle.pm_book.proofs.Moves.{same_self, and_holds}
 use Rattle.pm_book.proofs.Replays.{replay_more}
 
 pub always_of : (t : Tables) → IsSound t → AlwaysHolds (seen t)
@@ -144,8 +140,8 @@ pub spot_found : (t : Tables) (spot : Spot) (test : BookRow → Bool) (event : E
     → find (is_about event) (seen t).rows ≡ Some (row_seen t.cuts.items spot.row)
 spot_found t spot test event about first =
     ap (find (is_about event)) (seen_split t.cuts.items t.rows.items spot first.there)
-        ∙ find_at (is_about event) (map (row_seen t.cuts.items) (take spot.place t.rows.items)) (row_seen t.cuts.items spot.row) (map (row_seen t.cuts.items) (drop (spot.place + 1) t.rows.items))
-        (all_seen t.cuts.items test (is_about event) about (take spot.place t.rows.items) first.first) (about spot.row ∙ first.passes)
+    ∙ find_at (is_about event) (map (row_seen t.cuts.items) (take spot.place t.rows.items)) (row_seen t.cuts.items spot.row) (map (row_seen t.cuts.items) (drop (spot.place + 1) t.rows.items))
+    (all_seen t.cuts.items test (is_about event) about (take spot.place t.rows.items) first.first) (about spot.row ∙ first.passes)
 
 pub started : (old : State) (mid new : Tables) (spot : Spot) (test : BookRow → Bool) (event : Event) (ticket : Span) → seen mid ≡ old → ((r : BookRow) → is_about event (row_seen mid.cuts.items r) ≡ test r)
     → IsFirstSpot test mid.rows.items spot → ticket ≡ span_of (row_seen mid.cuts.items spot.row) → step (seen mid) event None ≡ Some (seen new) → HasStarted old event ticket (seen new)
@@ -239,7 +235,6 @@ pub wanted_is : (t : Tables) (ticket : Span) (spot : Spot) (above : Bool) → Is
     → (not above ≡ true) ↔ (Knows (seen t) ticket × (is_above (seen t).best ticket.from ≡ false))
 wanted_is t ticket spot above is above-is =
     (λ e. (known t ticket spot is, sym above-is ∙ not_is above e), λ both. ap not (above-is ∙ both.1))
-
 
 -- a span that ends at a list
 abbrev pub span_to : ℕ → List ℕ → List ℕ → Span

@@ -1,17 +1,15 @@
 -- What the events of a book do to its rows: few kinds of changes of one row.
-use Rattle.std.proofs.Common.{◌≡◌, ℕ, ◌⊎◌, ◌∙◌, Bool, true, false, cond, List, [], ◌∷◌, ◌++◌, length, refl, sym, ap, subst, inl, inr}
+use Rattle.std.proofs.Common.{◌≡◌, ℕ, ◌∙◌, Bool, true, false, cond, List, [], ◌∷◌, ◌++◌, length, refl, sym, ap, subst, inl, inr}
 use Rattle.std.specs.Prelude.{Option, Some, None, option_map, ◌==◌, ◌&&◌, ◌||◌, nat_le, if◌then◌else◌}
 use Rattle.std.specs.List.{find}
 use Rattle.std.specs.Option.{option_and_then}
-use Rattle.pm_choice.specs.declared.Bound.TheVariants.{At, End}
 use Rattle.pm_choice.specs.Order.{Precedes, PrecedesBound, IsWithin}
-use Rattle.pm_book.specs.declared.row.RowState.{RowState}
 use Rattle.pm_book.specs.declared.row.RowState.TheVariants.{Queued, Running, Done, Dropped}
 use Rattle.pm_book.specs.declared.event.Event.{Event}
 use Rattle.pm_book.specs.declared.event.Event.TheVariants.{Took, Claimed, Split, Returned, Closed, Found}
 use Rattle.pm_book.specs.Rows.{Row, State, is_before, is_below, is_within, is_queued, is_running, is_above, spent}
-use Rattle.pm_book.specs.Steps.{where_true, with_state, part_below, part_from, drop_above, ended, returned, is_next_cut, may_return, parts_after, is_about, new_best, with_best, replace_first, recorded, step_at, step}
-use Rattle.pm_book.proofs.Tests.{bool_cases, before_is, below_is, not_before_is, and_is, or_is, same_is, within_is, where_is}
+use Rattle.pm_book.specs.Steps.{with_state, part_below, part_from, drop_above, ended, returned, is_next_cut, may_return, parts_after, is_about, new_best, with_best, replace_first, recorded, step_at, step}
+use Rattle.pm_book.proofs.OrderTests.{bool_cases, before_is, below_is, and_is, within_is, where_is}
 
 -- the first row that passes a test stands between others, and is what gives way
 pub record IsFirstOf (test : Row → Bool) (row : Row) (rows : List Row) : Type 0 where
@@ -205,6 +203,7 @@ stepped book event cut next e = at_row (find (is_about event) book.rows) refl e
           next_is = sym whole ∙ ap (λ (o : Option (List ℕ)). with_best o (recorded book event cut (replace_first (is_about event) parts book.rows))) changes.best_is
               ∙ ap (λ (l : List Row). with_best (best_of changes.change) (recorded book event cut l)) (first.replaced parts);
         }
+
     at_row : (found : Option Row) → find (is_about event) book.rows ≡ found → option_and_then (step_at book event cut) found ≡ Some next → Stepped book event cut next
     at_row None about e = absurd cc
     at_row (Some row) about e = at_parts row about (parts_after book event cut row) refl e

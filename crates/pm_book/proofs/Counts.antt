@@ -1,20 +1,20 @@
 -- Counts of entries: they join along neighbouring intervals.
-use Rattle.std.proofs.Common.{◌≡◌, ℕ, ◌+◌, ◌<◌, ◌≤◌, ◌⊎◌, ◌∙◌, Bool, true, false, List, [], ◌∷◌, ◌++◌, length, refl, sym, ap, subst, inl, inr, arith, length-append}
-use Rattle.std.specs.Prelude.{All, Contains, Some, Option}
-use Rattle.std.proofs.lemmas.List.Elements.{All-append, All-contains, Contains-get_or, Contains-append_left, Contains-append_right, Contains-append_cases}
+use Rattle.std.proofs.Common.{ℕ, ◌+◌, ◌<◌, ◌⊎◌, List, [], ◌∷◌, ◌++◌, refl, sym, subst, inl, inr, arith, length-append}
+use Rattle.std.specs.Prelude.{All, Contains}
+use Rattle.std.proofs.lemmas.List.Elements.{All-append, Contains-get_or, Contains-append_left, Contains-append_right, Contains-append_cases}
 use Rattle.pm_space.specs.Key.{Key}
 use Rattle.pm_choice.specs.declared.Bound.{Bound}
 use Rattle.pm_choice.specs.declared.Bound.TheVariants.{At, End}
 use Rattle.pm_choice.specs.Order.{Precedes, PrecedesBound, IsWithin}
-use Rattle.pm_choice.proofs.OrderLemmas.{irreflexive, transitive, not_below, below_bound}
+use Rattle.pm_choice.proofs.OrderLemmas.{transitive, not_below, below_bound}
 use Rattle.pm_search.specs.Attempts.{IsRising, IsUpTo}
 use Rattle.pm_search.specs.Turns as search
-use Rattle.pm_search.specs.Work.{IsWork, Exceeds}
-use Rattle.pm_search.proofs.LawLemmas.{head_or_tail, head_is, tail_is}
+use Rattle.pm_search.specs.Work.{Exceeds}
+use Rattle.pm_search.proofs.LawLemmas.{head_is, tail_is}
 use Rattle.pm_search.proofs.WorkLemmas.{no_longer}
 use Rattle.pm_book.specs.Rows.{is_before}
 use Rattle.pm_book.specs.Honest.{Entries, attempts_of, HasCount, Closes, Finds, HasMore}
-use Rattle.pm_book.proofs.Tests.{bool_cases, before_is, not_before_is}
+use Rattle.pm_book.proofs.OrderTests.{bool_cases, before_is, not_before_is}
 
 each_in : (P : List ℕ → Type 0) (all : List (List ℕ)) → ((x : List ℕ) → Contains all x → P x) → All P all
 each_in P all each n d within = each _ (Contains-get_or all n d within)
@@ -118,12 +118,14 @@ pub more_found : (entries : Entries) (path : List ℕ) (most work : ℕ) → Fin
 more_found entries path most work finds over = record {
   all = finds.count.all;
   rising = finds.count.rising;
-  each = λ list within. let is = (finds.count.exactly list).0 within in
-      (is.0, λ other marked before. finds.least other marked (record { not_below = λ h. h; below = tt })
-          (elim (not_below path list is.1.not_above) [
-            | inl same ↦ subst (λ (l : List ℕ). Precedes other l) (sym same) before
-            | inr after ↦ transitive other list path before after
-          ]));
+  each = λ list within. let is = (finds.count.exactly list).0 within in (
+    is.0,
+    λ other marked before. finds.least other marked (record { not_below = λ h. h; below = tt })
+        (elim (not_below path list is.1.not_above) [
+          | inl same ↦ subst (λ (l : List ℕ). Precedes other l) (sym same) before
+          | inr after ↦ transitive other list path before after
+        ]),
+  );
   more = omega (arith, finds.count.counted, over);
 }
 

@@ -1,27 +1,27 @@
 -- A settled book that honest events made tells of all entries.
-use Rattle.std.proofs.Common.{◌≡◌, ℕ, ◌+◌, ◌<◌, ◌⊎◌, ◌∙◌, Bool, true, false, List, [], ◌∷◌, ◌++◌, length, map, refl, sym, ap, subst, inl, inr, arith, get_or, add_assoc, add-zero}
-use Rattle.std.specs.Prelude.{Option, Some, None, All, Contains, MatchOption, ◌&&◌, if◌then◌else◌}
-use Rattle.std.specs.List.{find, sum_by}
+use Rattle.std.proofs.Common.{◌≡◌, ℕ, ◌+◌, ◌⊎◌, ◌∙◌, true, false, List, [], ◌∷◌, ◌++◌, length, refl, sym, ap, subst, inl, inr, arith, get_or}
+use Rattle.std.specs.Prelude.{Option, Some, None, All, if◌then◌else◌}
+use Rattle.std.specs.List.{sum_by}
 use Rattle.std.proofs.lemmas.List.Sums.{sum_by-cons}
 use Rattle.std.proofs.lemmas.List.Elements.{All-nil, All-cons, All-head, All-tail, All-append, All-map, All-contains}
 use Rattle.pm_space.specs.Key.{Key}
 use Rattle.pm_choice.specs.declared.Bound.{Bound}
 use Rattle.pm_choice.specs.declared.Bound.TheVariants.{At, End}
-use Rattle.pm_choice.specs.Order.{Precedes, PrecedesBound, IsWithin}
+use Rattle.pm_choice.specs.Order.{IsWithin}
 use Rattle.pm_book.specs.declared.row.RowState.{RowState}
 use Rattle.pm_book.specs.declared.row.RowState.TheVariants.{Queued, Running, Done, Dropped}
 use Rattle.pm_book.specs.declared.event.Event.{Event}
-use Rattle.pm_book.specs.declared.event.Event.TheVariants.{Took, Claimed, Split, Returned, Closed, Found}
-use Rattle.pm_book.specs.Rows.{Row, State, Tile, is_queued, is_running, is_found, is_above, work_of}
-use Rattle.pm_book.specs.Steps.{new_book, with_state, part_below, part_from, drop_above, step, next, replayed, cut_of, is_about}
-use Rattle.pm_book.specs.Always.{HoldsPath, HasBest, AlwaysHolds}
-use Rattle.pm_book.specs.Honest.{Entries, attempts_of, Closes, Finds, HasMore, IsTrueAt, IsHonest, AreHonest, front_from, front_of, front_work, EndsFound, IsSettled, TellsOf, SettledBooksTell, TellsOfLevel, SettledBooksTellOfLevel}
-use Rattle.pm_book.proofs.Tests.{bool_cases, before_is, not_before_is, above_more}
+use Rattle.pm_book.specs.declared.event.Event.TheVariants.{Returned, Found}
+use Rattle.pm_book.specs.Rows.{Row, State, Tile, is_running, is_found, is_above, work_of}
+use Rattle.pm_book.specs.Steps.{new_book, with_state, part_below, part_from, drop_above, step, replayed, cut_of}
+use Rattle.pm_book.specs.Always.{HasBest, AlwaysHolds}
+use Rattle.pm_book.specs.Honest.{Entries, attempts_of, Closes, Finds, IsTrueAt, IsHonest, AreHonest, front_from, front_of, front_work, EndsFound, SettledBooksTell, SettledBooksTellOfLevel}
+use Rattle.pm_book.proofs.OrderTests.{before_is, above_more}
 use Rattle.pm_book.proofs.Tiles.{tile_round, TilesRound, ends_before, begins_after, none_empty}
-use Rattle.pm_book.proofs.Changes.{Change, IsAllowed, IsBy, parts_of, Changes, Stepped, stepped}
+use Rattle.pm_book.proofs.Changes.{Change, IsAllowed, IsBy, stepped}
 use Rattle.pm_book.proofs.Changes.Change.{starts, divides, drops, requeues, gives_back, closes, finds}
 use Rattle.pm_book.proofs.Kept.{changed_rows, rows_after, best_after, all_left, all_right}
-use Rattle.pm_book.proofs.Always.{among, one, two, Moved, moved, always_stepped, always_new, each_replay_holds, none_stays}
+use Rattle.pm_book.proofs.Always.{among, one, two, moved, always_stepped, always_new, each_replay_holds, none_stays}
 use Rattle.pm_book.proofs.Counts.{closes_nothing, closes_join, finds_join, more_closed, more_found, level_closes, level_finds, level_exceeds}
 
 -- What a row says of the entries: a Done row has told the truth. Of a found row the path is best, or the
@@ -82,15 +82,15 @@ found_tells entries book path work row before after is round may holds tells =
     All-map (RowTells entries (Some path)) (drop_above (Some path)) (changed_rows book (finds path work) row before after)
     (All-append P before (with_state (Done work true) row ∷ after)
     (λ k d less. let y : Row = get_or before k d in drop_tells entries book.best (Some path) y.number y.from y.to y.state (old k d less)
-        (λ p within either.
-            let above : is_above book.best row.from ≡ true = elim either [
-              | inl is_best ↦ subst (λ (b : Option (List ℕ)). is_above b row.from ≡ true) (sym is_best) ((before_is p row.from).1 (ends k d less p within.below))
-              | inr above ↦ above_more book.best y.from row.from above (ends k d less y.from (full k d less))
-            ] in
-            let not_above = may.1 in absurd cc))
+    (λ p within either.
+    let above : is_above book.best row.from ≡ true = elim either [
+      | inl is_best ↦ subst (λ (b : Option (List ℕ)). is_above b row.from ≡ true) (sym is_best) ((before_is p row.from).1 (ends k d less p within.below))
+      | inr above ↦ above_more book.best y.from row.from above (ends k d less y.from (full k d less))
+    ] in
+    let not_above = may.1 in absurd cc))
     (All-cons P (with_state (Done work true) row) after (path, holds, inl refl)
     (λ k d less. let y : Row = get_or after k d in drop_tells entries book.best (Some path) y.number y.from y.to y.state (old' k d less)
-        (λ p within either. (before_is path y.from).1 (begins k d less path may.2.below)))))
+    (λ p within either. (before_is path y.from).1 (begins k d less path may.2.below)))))
 
 tells_after : (entries : Entries) (book : State) (change : Change) (row : Row) (before after : List Row) → book.rows ≡ before ++ row ∷ after → TilesRound (At []) End before row after
     → IsAllowed book change row → IsTrueOf entries change row → All (RowTells entries book.best) book.rows → All (RowTells entries (best_after book change)) (rows_after book change row before after)
@@ -197,8 +197,10 @@ front_says entries best marked to (row ∷ rows) from done tiles tells closed =
   where
     closed_here : Closes entries [] (At row.from) done
     closed_here = subst (λ (b : Bound). Closes entries [] b done) tiles.0 closed
+
     stops : Says entries best to done [] (row ∷ rows)
     stops = inl (from, subst (λ (n : ℕ). Closes entries [] from n) (let z : done ≡ done + 0 = omega arith in z) closed, λ e. absurd cc, λ h. h)
+
     by : (state : RowState) → row.state ≡ state → Tells entries best row.from row.to state
         → ((work : ℕ) → Closes entries [] row.to (done + work) → Says entries best to (done + work) (front_of rows) rows)
         → Says entries best to done (front_from row state (front_of rows)) (row ∷ rows)

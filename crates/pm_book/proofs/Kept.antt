@@ -1,24 +1,23 @@
 -- What always holds of a book holds after each step.
-use Rattle.std.proofs.Common.{◌≡◌, ℕ, zero, suc, ◌+◌, ◌<◌, ◌≤◌, ◌⊎◌, ◌∙◌, Bool, true, false, cond, List, [], ◌∷◌, ◌++◌, length, map, refl, sym, ap, subst, inl, inr, arith, length-append}
+use Rattle.std.proofs.Common.{◌≡◌, ℕ, zero, suc, ◌+◌, ◌≤◌, ◌⊎◌, ◌∙◌, true, false, cond, List, [], ◌∷◌, ◌++◌, length, map, refl, sym, ap, subst, inl, inr, arith, length-append}
 use Rattle.std.specs.Prelude.{Option, Some, None, All, Contains, ◌==◌, ◌&&◌, nat_lt, if◌then◌else◌}
-use Rattle.std.specs.List.{sum_by, count_by, find}
+use Rattle.std.specs.List.{count_by}
 use Rattle.std.proofs.lemmas.List.{map-append}
 use Rattle.std.proofs.lemmas.List.Sums.{sum_by-append, sum_by-cons}
-use Rattle.std.proofs.lemmas.List.Elements.{All-nil, All-cons, All-head, All-tail, All-weaker, All-append, All-map, All-contains, Contains-append_cases, Contains-append_left, Contains-append_right}
+use Rattle.std.proofs.lemmas.List.Elements.{All-nil, All-cons, All-head, All-tail, All-contains, Contains-append_cases}
 use Rattle.std.proofs.lemmas.Bool.Decides.{nat_tests}
 use Rattle.pm_choice.specs.declared.Bound.{Bound}
 use Rattle.pm_choice.specs.declared.Bound.TheVariants.{At, End}
-use Rattle.pm_choice.specs.Order.{Precedes, PrecedesBound, IsWithin}
-use Rattle.pm_choice.proofs.OrderLemmas.{irreflexive, transitive, not_below, below_bound}
+use Rattle.pm_choice.specs.Order.{Precedes, PrecedesBound}
+use Rattle.pm_choice.proofs.OrderLemmas.{transitive}
 use Rattle.pm_book.specs.declared.row.RowState.{RowState}
 use Rattle.pm_book.specs.declared.row.RowState.TheVariants.{Queued, Running, Done, Dropped}
-use Rattle.pm_book.specs.declared.event.Event.{Event}
-use Rattle.pm_book.specs.Rows.{Row, State, Tile, is_before, is_queued, is_running, is_found, is_above, count_of}
-use Rattle.pm_book.specs.Steps.{new_book, with_state, part_below, part_from, drop_above, with_best, recorded, step, next, replayed, cut_of, parts_after, is_about}
-use Rattle.pm_book.specs.Always.{IsPlaced, HoldsPath, HasBest, AlwaysHolds, IsInOne, Covers, EachReplayHolds, EachListIsInOneRow, EachEventCoversItsRow}
-use Rattle.pm_book.proofs.Tests.{bool_cases, before_is, not_before_is, is_not_before, and_is, above_more}
-use Rattle.pm_book.proofs.Tiles.{tile_append, tile_round, TilesRound, ends_before, begins_after, none_empty, in_one, covers}
-use Rattle.pm_book.proofs.Changes.{Change, IsAllowed, parts_of, best_of, Changes, change_of, IsFirstOf, first_found, Stepped, stepped}
+use Rattle.pm_book.specs.Rows.{Row, State, Tile, is_queued, is_running, is_found, is_above, count_of}
+use Rattle.pm_book.specs.Steps.{with_state, part_below, part_from, drop_above}
+use Rattle.pm_book.specs.Always.{HasBest}
+use Rattle.pm_book.proofs.OrderTests.{not_before_is, is_not_before}
+use Rattle.pm_book.proofs.Tiles.{tile_append, TilesRound, ends_before, begins_after}
+use Rattle.pm_book.proofs.Changes.{Change, IsAllowed, parts_of}
 use Rattle.pm_book.proofs.Changes.Change.{starts, divides, drops, requeues, gives_back, closes, finds}
 
 -- dropping a row changes only how it stands
@@ -35,12 +34,11 @@ drop_number best row =
     elim (is_queued row.state && is_above best row.from) as (λ b. (if b then with_state Dropped row else row).number ≡ row.number) [ true ↦ refl | false ↦ refl ]
 
 tile_one : (best : Option (List ℕ)) (a b : Bound) (row : Row) (rows : List Row) → (a ≡ At row.from) → PrecedesBound row.from row.to → Tile row.to b rows → Tile a b (drop_above best row ∷ rows)
-tile_one best a b row rows first here rest =
-    (
-      first ∙ ap At (sym (drop_from best row)),
-      subst (λ (l : List ℕ). PrecedesBound l (drop_above best row).to) (sym (drop_from best row)) (subst (λ (to : Bound). PrecedesBound row.from to) (sym (drop_to best row)) here),
-      subst (λ (to : Bound). Tile to b rows) (sym (drop_to best row)) rest,
-    )
+tile_one best a b row rows first here rest = (
+  first ∙ ap At (sym (drop_from best row)),
+  subst (λ (l : List ℕ). PrecedesBound l (drop_above best row).to) (sym (drop_from best row)) (subst (λ (to : Bound). PrecedesBound row.from to) (sym (drop_to best row)) here),
+  subst (λ (to : Bound). Tile to b rows) (sym (drop_to best row)) rest,
+)
 
 tile_dropped : (best : Option (List ℕ)) (a b : Bound) (rows : List Row) → Tile a b rows → Tile a b (map (drop_above best) rows)
 tile_dropped best a b [] tiles = tiles
@@ -95,7 +93,7 @@ count_dropped : (best : Option (List ℕ)) (n : ℕ) (rows : List Row) → count
 count_dropped best n [] = refl
 count_dropped best n (x ∷ xs) =
     count_cons n (drop_above best x) (map (drop_above best) xs) ∙ ap (λ (m : ℕ). cond (m == n) 1 0 + count_of n (map (drop_above best) xs)) (drop_number best x)
-        ∙ ap (λ (m : ℕ). cond (x.number == n) 1 0 + m) (count_dropped best n xs) ∙ sym (count_cons n x xs)
+    ∙ ap (λ (m : ℕ). cond (x.number == n) 1 0 + m) (count_dropped best n xs) ∙ sym (count_cons n x xs)
 
 -- how many rows a change adds
 abbrev added : Change → ℕ
@@ -179,8 +177,8 @@ pub numbered_after : (book : State) (change : Change) (row : Row) (before after 
 numbered_after book change row before after n is numbered =
     after_drops (λ (count total : ℕ). count ≡ (if nat_lt n total then 1 else 0)) book change row before after n
     (count_changed book change row before after n is
-        ∙ one_more (count_of n book.rows) (length book.rows) (added change) n numbered (added_few change)
-        ∙ ap (λ (total : ℕ). if nat_lt n total then 1 else 0) (sym (length_changed book change row before after is)))
+    ∙ one_more (count_of n book.rows) (length book.rows) (added change) n numbered (added_few change)
+    ∙ ap (λ (total : ℕ). if nat_lt n total then 1 else 0) (sym (length_changed book change row before after is)))
 
 -- a row that ran is no other
 pub running_is : (state : RowState) → is_running state ≡ true → (is_found state ≡ false) × (is_queued state ≡ false)

@@ -1,4 +1,4 @@
-pub mod Tests
+pub mod OrderTests
 pub mod Tiles
 pub mod Changes
 pub mod Kept

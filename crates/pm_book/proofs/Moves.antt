@@ -1,25 +1,20 @@
 -- What the changes of tables are steps of.
-use Rattle.std.proofs.Common.{◌≡◌, ℕ, zero, suc, ◌+◌, ◌-◌, ◌<◌, ◌≤◌, ◌⊎◌, ◌∙◌, Bool, true, false, cond, List, [], ◌∷◌, ◌++◌, length, take, drop, map, get_or, refl, sym, ap, subst, inl, inr, arith, add-one, length-append}
-use Rattle.std.specs.Prelude.{Option, Some, None, All, slice_get, slice_index_or, ◌==◌, ◌&&◌, ◌||◌, not, nat_le, if◌then◌else◌}
-use Rattle.std.specs.List.{find, count_by}
-use Rattle.std.specs.Option.{option_to_list}
+use Rattle.std.proofs.Common.{◌≡◌, ℕ, zero, suc, ◌+◌, ◌-◌, ◌<◌, ◌≤◌, ◌⊎◌, ◌∙◌, Bool, true, false, List, [], ◌∷◌, ◌++◌, length, map, refl, sym, ap, subst, inl, inr, arith}
+use Rattle.std.specs.Prelude.{Option, Some, None, All, slice_get, slice_index_or, ◌==◌, ◌&&◌, nat_le, if◌then◌else◌}
 use Rattle.std.proofs.lemmas.Bool.Decides.{nat_tests}
-use Rattle.std.proofs.lemmas.List.{map-append, length-map}
+use Rattle.std.proofs.lemmas.List.{length-map}
 use Rattle.std.proofs.Math.Seq.{get_or-append_seam}
 use Rattle.std.proofs.lemmas.List.Elements.{All-cons, All-nil}
 use Rattle.std.proofs.lemmas.Option.{slice_get_within, get_or_from_slice_get}
-use Rattle.pm_choice.specs.declared.Bound.{Bound}
-use Rattle.pm_choice.specs.declared.Bound.TheVariants.{At, End}
 use Rattle.pm_book.specs.declared.row.RowState.{RowState}
 use Rattle.pm_book.specs.declared.row.RowState.TheVariants.{Queued, Running, Done, Dropped}
 use Rattle.pm_book.specs.declared.row.BookRow.{BookRow}
-use Rattle.pm_book.specs.declared.event.Event.{Event}
 use Rattle.pm_book.specs.declared.event.Event.TheVariants.{Took, Claimed, Split, Returned, Closed, Found}
 use Rattle.pm_book.specs.declared.tables.Tables.{Tables}
 use Rattle.pm_book.specs.declared.tables.Spot.{Spot}
-use Rattle.pm_book.specs.Rows.{Row, State, is_before, is_below, is_within, is_queued, is_running, is_above, spent}
-use Rattle.pm_book.specs.Steps.{where_true, with_state, part_below, part_from, drop_above, ended, returned, may_return, is_next_cut, is_about, parts_after, new_best, with_best, step}
-use Rattle.pm_book.specs.Seen.{lower, upper, row_seen, seen, IsPlace, HasPlaces, running_of, HasRoom, AreKept, IsFirstSpot, IsRunningSpot, HasPut, queued_unless, done_unless}
+use Rattle.pm_book.specs.Rows.{Row, is_before, is_below, is_within, is_queued, is_running, is_above, spent}
+use Rattle.pm_book.specs.Steps.{where_true, with_state, part_below, part_from, drop_above, ended, returned, may_return, is_next_cut, with_best, step}
+use Rattle.pm_book.specs.Seen.{lower, upper, row_seen, seen, HasPlaces, running_of, HasRoom, AreKept, IsFirstSpot, IsRunningSpot, HasPut, queued_unless, done_unless}
 use Rattle.pm_book.proofs.Places.{lower_more, upper_more, row_more, places_more, put_step, running_least}
 
 pub where_holds : {A : Type 0} (test : Bool) (value : A) → test ≡ true → where_true test value ≡ Some value
@@ -92,21 +87,21 @@ take_step old new spot worker kept first within put =
     put_step old new spot (λ row. is_queued row.state) (record spot.row { state = Running worker } ∷ []) None (Took worker spot.row.number) kept first (λ r. refl) put
     (where_holds (spot.row.number == spot.row.number && nat_le (spent (seen old)) old.budget) (with_state (Running worker) (row_seen old.cuts.items spot.row) ∷ [])
     (and_holds (spot.row.number == spot.row.number) (nat_le (spent (seen old)) old.budget) (same_self spot.row.number) (within_le (spent (seen old)) old.budget within))
-        ∙ ap Some (sym (one_part old spot [] (Running worker) kept first.there)))
+    ∙ ap Some (sym (one_part old spot [] (Running worker) kept first.there)))
 
 pub claim_step : (old new : Tables) (spot : Spot) (worker : ℕ) → AreKept old → IsFirstSpot (λ row. row.number == spot.row.number) old.rows.items spot → is_queued spot.row.state ≡ true
     → HasPut old new spot.place (record spot.row { state = Running worker } ∷ []) None (Claimed worker spot.row.number) → step (seen old) (Claimed worker spot.row.number) None ≡ Some (seen new)
 claim_step old new spot worker kept first queued put =
     put_step old new spot (λ row. row.number == spot.row.number) (record spot.row { state = Running worker } ∷ []) None (Claimed worker spot.row.number) kept first (λ r. refl) put
     (where_holds (is_queued spot.row.state) (with_state (Running worker) (row_seen old.cuts.items spot.row) ∷ []) queued
-        ∙ ap Some (sym (one_part old spot [] (Running worker) kept first.there)))
+    ∙ ap Some (sym (one_part old spot [] (Running worker) kept first.there)))
 
 -- a new row that is dropped where it is above best, as it is seen
 queued_part : (best : Option (List ℕ)) (cut : List ℕ) (number : ℕ) (row : Row) (above : Bool) → above ≡ is_above best cut
     → record { number = number; from = cut; to = row.to; state = queued_unless above } ≡ drop_above best (part_from cut number row)
 queued_part best cut number row above is =
     elim above as (λ b. record { number = number; from = cut; to = row.to; state = queued_unless b } ≡ (if b then with_state Dropped (part_from cut number row) else part_from cut number row)) [ true ↦ refl | false ↦ refl ]
-        ∙ ap (λ (b : Bool). if b then with_state Dropped (part_from cut number row) else part_from cut number row) is
+    ∙ ap (λ (b : Bool). if b then with_state Dropped (part_from cut number row) else part_from cut number row) is
 
 pub split_step : (old new : Tables) (spot : Spot) (cut : List ℕ) (place number : ℕ) (above : Bool) (state : RowState) → state ≡ queued_unless above → place ≡ length old.cuts.items → number ≡ length old.rows.items → above ≡ is_above (seen old).best cut
     → AreKept old → IsRunningSpot old spot → is_before (lower old.cuts.items spot.row.from) cut ≡ true → is_below cut (upper old.cuts.items spot.row.to) ≡ true
@@ -126,15 +121,15 @@ split_step old new spot cut place number above state state-is place-is number-is
     (part_below cut row.state row ∷ drop_above (seen old).best (part_from cut (length (seen old).rows) row) ∷ [])
     (and_holds (is_next_cut (seen old) (length cuts)) (is_running row.state && (is_before row.from cut && is_below cut row.to)) (same_self (length cuts))
     (and_holds (is_running row.state) (is_before row.from cut && is_below cut row.to) spot-is.runs (and_holds (is_before row.from cut) (is_below cut row.to) after below)))
-        ∙ ap (λ (r : Row). Some (part_below cut row.state row ∷ r ∷ [])) (sym rest)
-        ∙ ap Some (sym (two_parts old spot cut number spot.row.state (queued_unless above) kept spot-is.first.there)))
+    ∙ ap (λ (r : Row). Some (part_below cut row.state row ∷ r ∷ [])) (sym rest)
+    ∙ ap Some (sym (two_parts old spot cut number spot.row.state (queued_unless above) kept spot-is.first.there)))
 
 -- a row that ends, as it is seen
 done_part : (best : Option (List ℕ)) (row : Row) (work : ℕ) (found above : Bool) → above ≡ is_above best row.from
     → with_state (done_unless above work found) row ∷ [] ≡ ended best row (with_state (Done work found) row ∷ [])
 done_part best row work found above is =
     elim above as (λ b. with_state (done_unless b work found) row ∷ [] ≡ (if b then with_state Dropped row ∷ [] else with_state (Done work found) row ∷ [])) [ true ↦ refl | false ↦ refl ]
-        ∙ ap (λ (b : Bool). if b then with_state Dropped row ∷ [] else with_state (Done work found) row ∷ []) is
+    ∙ ap (λ (b : Bool). if b then with_state Dropped row ∷ [] else with_state (Done work found) row ∷ []) is
 
 pub close_step : (old new : Tables) (spot : Spot) (work : ℕ) (above : Bool) (state : RowState) → state ≡ done_unless above work false → above ≡ is_above (seen old).best (lower old.cuts.items spot.row.from) → AreKept old → IsRunningSpot old spot
     → HasPut old new spot.place (record spot.row { state = state } ∷ []) None (Closed spot.row.number work) → step (seen old) (Closed spot.row.number work) None ≡ Some (seen new)
@@ -143,8 +138,8 @@ close_step old new spot work above state state-is above-is kept spot-is put =
     put_step old new spot (λ r. r.number == spot.row.number) (record spot.row { state = done_unless above work false } ∷ []) None (Closed spot.row.number work) kept spot-is.first (λ r. refl)
     (subst (λ (q : RowState). HasPut old new spot.place (record spot.row { state = q } ∷ []) None (Closed spot.row.number work)) state-is put)
     (where_holds (is_running row.state) (ended (seen old).best row (with_state (Done work false) row ∷ [])) spot-is.runs
-        ∙ ap Some (sym (done_part (seen old).best row work false above above-is))
-        ∙ ap Some (sym (one_part old spot [] (done_unless above work false) kept spot-is.first.there)))
+    ∙ ap Some (sym (done_part (seen old).best row work false above above-is))
+    ∙ ap Some (sym (one_part old spot [] (done_unless above work false) kept spot-is.first.there)))
 
 -- what a return leaves where it is above best or at the lower end
 queued_end : (best : Option (List ℕ)) (cut : List ℕ) (number work : ℕ) (row : Row) (above beyond : Bool) → above ≡ is_above best row.from → beyond ≡ is_before row.from cut → (above ≡ true) ⊎ (beyond ≡ false)
@@ -171,8 +166,8 @@ queue_step old new spot cut work place above beyond state state-is place-is abov
     put_step old new spot (λ r. r.number == spot.row.number) (record spot.row { state = queued_unless above } ∷ []) (Some cut) (Returned spot.row.number (length cuts) work) kept spot-is.first (λ r. refl) put'
     (where_holds (is_next_cut (seen old) (length cuts) && may_return cut work row) (ended (seen old).best row (returned cut (length (seen old).rows) work row))
     (and_holds (is_next_cut (seen old) (length cuts)) (may_return cut work row) (same_self (length cuts)) may)
-        ∙ ap Some (sym (queued_end (seen old).best cut (length (seen old).rows) work row above beyond above-is beyond-is which))
-        ∙ ap Some (sym (one_part old spot (cut ∷ []) (queued_unless above) kept spot-is.first.there)))
+    ∙ ap Some (sym (queued_end (seen old).best cut (length (seen old).rows) work row above beyond above-is beyond-is which))
+    ∙ ap Some (sym (one_part old spot (cut ∷ []) (queued_unless above) kept spot-is.first.there)))
 
 pub return_step : (old new : Tables) (spot : Spot) (cut : List ℕ) (work place number : ℕ) → place ≡ length old.cuts.items → number ≡ length old.rows.items
     → is_above (seen old).best (lower old.cuts.items spot.row.from) ≡ false → is_before (lower old.cuts.items spot.row.from) cut ≡ true
@@ -186,13 +181,13 @@ return_step old new spot cut work place number place-is number-is not_above afte
     let count : number ≡ length (seen old).rows = number-is ∙ sym (length-map old.rows.items (row_seen cuts)) in
     let parts : ended (seen old).best row (returned cut (length (seen old).rows) work row) ≡ part_below cut (Done work false) row ∷ part_from cut number row ∷ [] =
     ap (λ (b : Bool). if b then with_state Dropped row ∷ [] else returned cut (length (seen old).rows) work row) not_above
-        ∙ ap (λ (b : Bool). if b then part_below cut (Done work false) row ∷ part_from cut (length (seen old).rows) row ∷ [] else with_state Queued row ∷ []) after
-        ∙ ap (λ (n : ℕ). part_below cut (Done work false) row ∷ part_from cut n row ∷ []) (sym count) in
+    ∙ ap (λ (b : Bool). if b then part_below cut (Done work false) row ∷ part_from cut (length (seen old).rows) row ∷ [] else with_state Queued row ∷ []) after
+    ∙ ap (λ (n : ℕ). part_below cut (Done work false) row ∷ part_from cut n row ∷ []) (sym count) in
     put_step old new spot (λ r. r.number == spot.row.number) (record spot.row { to = Some (length cuts); state = Done work false } ∷ record { number = number; from = Some (length cuts); to = spot.row.to; state = Queued } ∷ [])
     (Some cut) (Returned spot.row.number (length cuts) work) kept spot-is.first (λ r. refl) put'
     (where_holds (is_next_cut (seen old) (length cuts) && may_return cut work row) (ended (seen old).best row (returned cut (length (seen old).rows) work row))
     (and_holds (is_next_cut (seen old) (length cuts)) (may_return cut work row) (same_self (length cuts)) may)
-        ∙ ap Some parts ∙ ap Some (sym (two_parts old spot cut number (Done work false) Queued kept spot-is.first.there)))
+    ∙ ap Some parts ∙ ap Some (sym (two_parts old spot cut number (Done work false) Queued kept spot-is.first.there)))
 
 -- a find, before any row is dropped
 pub find_step : (old new : Tables) (spot : Spot) (path : List ℕ) (work place : ℕ) (above : Bool) (state : RowState) → state ≡ done_unless above work true → place ≡ length old.cuts.items
@@ -207,9 +202,9 @@ find_step old new spot path work place above state state-is place-is above-is ke
     put_step old new spot (λ r. r.number == spot.row.number) (record spot.row { state = done_unless above work true } ∷ []) (Some path) (Found spot.row.number (length cuts) work) kept spot-is.first (λ r. refl) put'
     (where_holds (is_next_cut (seen old) (length cuts) && (is_running row.state && is_within row.from row.to path)) (ended (seen old).best row (with_state (Done work true) row ∷ []))
     (and_holds (is_next_cut (seen old) (length cuts)) (is_running row.state && is_within row.from row.to path) (same_self (length cuts)) (and_holds (is_running row.state) (is_within row.from row.to path) spot-is.runs within))
-        ∙ ap Some (sym (done_part (seen old).best row work true above above-is))
-        ∙ ap Some (sym (one_part old spot (path ∷ []) (done_unless above work true) kept spot-is.first.there)))
-        ∙ ap (λ (b : Bool). Some (with_best (if b then None else Some path) (seen new))) (sym above-is)
+    ∙ ap Some (sym (done_part (seen old).best row work true above above-is))
+    ∙ ap Some (sym (one_part old spot (path ∷ []) (done_unless above work true) kept spot-is.first.there)))
+    ∙ ap (λ (b : Bool). Some (with_best (if b then None else Some path) (seen new))) (sym above-is)
 
 -- the places of the two parts of a row that is cut
 pub two_places : (t : Tables) (spot : Spot) (place number : ℕ) (state rest : RowState) → place ≡ length t.cuts.items → AreKept t → slice_get t.rows.items spot.place ≡ Some spot.row

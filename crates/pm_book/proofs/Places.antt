@@ -1,21 +1,19 @@
 -- Rows by their places: a spot, what stands before it and after it, and what they stand for.
-use Rattle.std.proofs.Common.{◌≡◌, ℕ, zero, suc, ◌+◌, ◌-◌, ◌<◌, ◌≤◌, ◌⊎◌, ◌∙◌, Bool, true, false, cond, List, [], ◌∷◌, ◌++◌, length, take, drop, map, refl, sym, ap, subst, inl, inr, arith, add-one, length-append}
-use Rattle.std.specs.Prelude.{Option, Some, None, All, slice_get, slice_index_or, option_map}
-use Rattle.std.specs.List.{find, count_by, sum_by}
+use Rattle.std.proofs.Common.{◌≡◌, ℕ, zero, suc, ◌+◌, ◌-◌, ◌≤◌, ◌∙◌, Bool, true, false, cond, List, [], ◌∷◌, ◌++◌, length, take, drop, map, refl, sym, ap, subst, arith, add-one, length-append}
+use Rattle.std.specs.Prelude.{Option, Some, None, All, slice_get, option_map}
+use Rattle.std.specs.List.{find, count_by}
 use Rattle.std.specs.Option.{option_to_list, option_and_then}
 use Rattle.std.proofs.lemmas.List.{map-append, get_or_append_left}
 use Rattle.std.proofs.lemmas.List.Sums.{sum_by-append, sum_by-cons}
 use Rattle.std.proofs.lemmas.List.Elements.{All-nil, All-cons, All-head, All-tail, All-append, All-take, All-drop, All-weaker}
-use Rattle.pm_choice.specs.declared.Bound.{Bound}
-use Rattle.pm_choice.specs.declared.Bound.TheVariants.{At, End}
-use Rattle.pm_book.specs.declared.row.RowState.{RowState}
+use Rattle.pm_choice.specs.declared.Bound.TheVariants.{At}
 use Rattle.pm_book.specs.declared.row.BookRow.{BookRow}
 use Rattle.pm_book.specs.declared.event.Event.{Event}
 use Rattle.pm_book.specs.declared.tables.Tables.{Tables}
 use Rattle.pm_book.specs.declared.tables.Spot.{Spot}
 use Rattle.pm_book.specs.Rows.{Row, State, is_running}
 use Rattle.pm_book.specs.Steps.{is_about, parts_after, new_best, with_best, recorded, replace_first, step, step_at}
-use Rattle.pm_book.specs.Seen.{lower, upper, row_seen, seen, best_seen, IsPlace, HasPlaces, running_of, HasRoom, AreKept, IsFirstSpot, HasPut}
+use Rattle.pm_book.specs.Seen.{lower, upper, row_seen, seen, best_seen, IsPlace, HasPlaces, running_of, AreKept, IsFirstSpot, HasPut}
 
 -- a list is what stands before an element, the element, and what stands after it
 split_suc : {X : Type 0} → (xs : List X) (place : ℕ) (x : X) → slice_get xs place ≡ Some x → xs ≡ take place xs ++ (x ∷ drop (suc place) xs)
@@ -37,7 +35,7 @@ pub replace_at : (test : Row → Bool) (before : List Row) (row : Row) (after pa
 replace_at test [] row after parts none passes = ap (λ (b : Bool). cond b (parts ++ after) (row ∷ replace_first test parts after)) passes
 replace_at test (x ∷ xs) row after parts none passes =
     ap (λ (b : Bool). cond b (parts ++ (xs ++ (row ∷ after))) (x ∷ replace_first test parts (xs ++ (row ∷ after)))) (All-head (λ r. test r ≡ false) x xs none)
-        ∙ ap (λ (l : List Row). x ∷ l) (replace_at test xs row after parts (All-tail (λ r. test r ≡ false) x xs none) passes)
+    ∙ ap (λ (l : List Row). x ∷ l) (replace_at test xs row after parts (All-tail (λ r. test r ≡ false) x xs none) passes)
 
 pub find_none : (test : Row → Bool) (rows : List Row) → All (λ r. test r ≡ false) rows → find test rows ≡ None
 find_none test [] none = refl
@@ -49,8 +47,8 @@ pub step_made : (book : State) (event : Event) (cut : Option (List ℕ)) (before
     → step book event cut ≡ Some (with_best (new_best book event cut row) (recorded book event cut (before ++ (parts ++ after))))
 step_made book event cut before row after parts is none passes made =
     ap (option_and_then (step_at book event cut)) (ap (find (is_about event)) is ∙ find_at (is_about event) before row after none passes)
-        ∙ ap (option_map (λ (ps : List Row). with_best (new_best book event cut row) (recorded book event cut (replace_first (is_about event) ps book.rows)))) made
-        ∙ ap (λ (rows : List Row). Some (with_best (new_best book event cut row) (recorded book event cut rows))) (ap (replace_first (is_about event) parts) is ∙ replace_at (is_about event) before row after parts none passes)
+    ∙ ap (option_map (λ (ps : List Row). with_best (new_best book event cut row) (recorded book event cut (replace_first (is_about event) ps book.rows)))) made
+    ∙ ap (λ (rows : List Row). Some (with_best (new_best book event cut row) (recorded book event cut rows))) (ap (replace_first (is_about event) parts) is ∙ replace_at (is_about event) before row after parts none passes)
 
 -- an event that fits no row, or not its row, is no step
 pub no_row : (book : State) (event : Event) (cut : Option (List ℕ)) → All (λ r. is_about event r ≡ false) book.rows → step book event cut ≡ None
@@ -60,7 +58,7 @@ pub no_parts : (book : State) (event : Event) (cut : Option (List ℕ)) (before 
     → book.rows ≡ before ++ (row ∷ after) → All (λ r. is_about event r ≡ false) before → is_about event row ≡ true → parts_after book event cut row ≡ None → step book event cut ≡ None
 no_parts book event cut before row after is none passes made =
     ap (option_and_then (step_at book event cut)) (ap (find (is_about event)) is ∙ find_at (is_about event) before row after none passes)
-        ∙ ap (option_map (λ (ps : List Row). with_best (new_best book event cut row) (recorded book event cut (replace_first (is_about event) ps book.rows)))) made
+    ∙ ap (option_map (λ (ps : List Row). with_best (new_best book event cut row) (recorded book event cut (replace_first (is_about event) ps book.rows)))) made
 
 -- more cuts change nothing for rows whose places are among the cuts
 pub lower_more : (cuts more : List (List ℕ)) (place : Option ℕ) → IsPlace (length cuts) place → lower (cuts ++ more) place ≡ lower cuts place
@@ -124,9 +122,9 @@ put_rows old new place rows cut event kept put =
     let front = take place old.rows.items in
     let back = drop (place + 1) old.rows.items in
     ap (λ (c : List (List ℕ)). map (row_seen c) new.rows.items) put.cuts_are ∙ ap (map f) put.rows_are ∙ map-append f front (rows ++ back)
-        ∙ ap (λ (l : List Row). map f front ++ l) (map-append f rows back)
-        ∙ ap (λ (l : List Row). l ++ (map f rows ++ map f back)) (rows_more cuts (option_to_list cut) front (All-take (HasPlaces (length cuts)) place old.rows.items kept.places))
-        ∙ ap (λ (l : List Row). map (row_seen cuts) front ++ (map f rows ++ l)) (rows_more cuts (option_to_list cut) back (All-drop (HasPlaces (length cuts)) (place + 1) old.rows.items kept.places))
+    ∙ ap (λ (l : List Row). map f front ++ l) (map-append f rows back)
+    ∙ ap (λ (l : List Row). l ++ (map f rows ++ map f back)) (rows_more cuts (option_to_list cut) front (All-take (HasPlaces (length cuts)) place old.rows.items kept.places))
+    ∙ ap (λ (l : List Row). map (row_seen cuts) front ++ (map f rows ++ l)) (rows_more cuts (option_to_list cut) back (All-drop (HasPlaces (length cuts)) (place + 1) old.rows.items kept.places))
 
 pub put_best : (old new : Tables) (place : ℕ) (rows : List BookRow) (cut : Option (List ℕ)) (event : Event) → AreKept old → HasPut old new place rows cut event → (seen new).best ≡ (seen old).best
 put_best old new place rows cut event kept put =
@@ -160,8 +158,8 @@ count_none : (rows : List BookRow) → All (λ r. is_running r.state ≡ false) 
 count_none [] none = refl
 count_none (x ∷ xs) none =
     sum_by-cons (λ (r : BookRow). cond (is_running r.state) 1 0) x xs
-        ∙ ap (λ (b : Bool). cond b 1 0 + count_by (λ (r : BookRow). is_running r.state) xs) (All-head (λ (r : BookRow). is_running r.state ≡ false) x xs none)
-        ∙ (let rest = count_none xs (All-tail (λ (r : BookRow). is_running r.state ≡ false) x xs none) in omega (arith, rest))
+    ∙ ap (λ (b : Bool). cond b 1 0 + count_by (λ (r : BookRow). is_running r.state) xs) (All-head (λ (r : BookRow). is_running r.state ≡ false) x xs none)
+    ∙ (let rest = count_none xs (All-tail (λ (r : BookRow). is_running r.state ≡ false) x xs none) in omega (arith, rest))
 
 abbrev runs : BookRow → Bool
 runs row = is_running row.state

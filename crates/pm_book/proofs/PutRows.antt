@@ -37,7 +37,7 @@ written_more u xs now first k read value within is read-is value-is =
     ap (λ l. set l (first + k) value) whole ∙ ap (λ n. set (front ++ (y ∷ rest)) n value) (sym long) ∙ set-append_seam front y rest value in
     let more : map u (take (k + 1) ys) ≡ map u (take k ys) ++ (u y ∷ []) = ap (map u) (take_more ys k read inside) ∙ map-append u (take k ys) (y ∷ []) in
     set-is ∙ ap (λ v. front ++ (v ∷ rest)) (value-is ∙ ap u read-y) ∙ append_assoc (take first xs) (map u (take k ys)) (u y ∷ rest)
-        ∙ ap (λ l. take first xs ++ l) (sym (append_assoc (map u (take k ys)) (u y ∷ []) rest)) ∙ ap (λ l. take first xs ++ (l ++ rest)) (sym more)
+    ∙ ap (λ l. take first xs ++ l) (sym (append_assoc (map u (take k ys)) (u y ∷ []) rest)) ∙ ap (λ l. take first xs ++ (l ++ rest)) (sym more)
 
 pub take_whole : {X : Type 0} → (n : ℕ) (xs : List X) → length xs ≤ n → take n xs ≡ xs
 take_whole zero [] long = refl

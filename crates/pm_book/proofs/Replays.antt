@@ -1,14 +1,14 @@
 -- Replays: a book's own history gives it back.
-use Rattle.std.proofs.Common.{◌≡◌, ℕ, zero, suc, ◌<◌, ◌⊎◌, ◌∙◌, Bool, true, false, List, [], ◌∷◌, ◌++◌, length, take, refl, sym, ap, subst, inl, inr, arith}
-use Rattle.std.specs.Prelude.{Option, Some, None, slice_get, ◌&&◌, ◌||◌, ◌==◌, option_map, if◌then◌else◌, MatchBool}
+use Rattle.std.proofs.Common.{◌≡◌, ℕ, zero, suc, ◌∙◌, true, List, [], ◌∷◌, ◌++◌, length, refl, ap}
+use Rattle.std.specs.Prelude.{Option, Some, None, slice_get, ◌&&◌, option_map}
 use Rattle.std.specs.List.{find}
 use Rattle.std.specs.Option.{option_to_list, option_and_then}
 use Rattle.pm_book.specs.declared.event.Event.{Event}
 use Rattle.pm_book.specs.declared.event.Event.TheVariants.{Took, Claimed, Split, Returned, Closed, Found}
 use Rattle.pm_book.specs.Rows.{Row, State, is_before, is_below, is_within, is_running}
 use Rattle.pm_book.specs.Steps.{new_book, where_true, with_best, recorded, ended, returned, part_below, part_from, drop_above, with_state, may_return, is_next_cut, parts_after, is_about, step, step_at, cut_of, next, replayed, IsReplay}
-use Rattle.pm_book.proofs.Tests.{and_is, same_is, where_is}
-use Rattle.pm_book.proofs.Changes.{Stepped, stepped, best_of}
+use Rattle.pm_book.proofs.OrderTests.{and_is, same_is, where_is}
+use Rattle.pm_book.proofs.Changes.{stepped, best_of}
 use Rattle.pm_book.proofs.Always.{none_stays}
 
 pub get_seam : {X : Type 0} → (xs : List X) (x : X) → slice_get (xs ++ x ∷ []) (length xs) ≡ Some x
@@ -113,12 +113,12 @@ replay_more book event cut later is e =
     let a = adds book event cut later e in
     let before : replayed later.cuts book.events (Some (new_book later.budget)) ≡ Some book =
     ap (λ (l : List (List ℕ)). replayed l book.events (Some (new_book later.budget))) a.cuts
-        ∙ ap (λ (n : ℕ). replayed (book.cuts ++ option_to_list cut) book.events (Some (new_book n))) a.budget
-        ∙ replayed_more book.cuts (option_to_list cut) book.events (new_book book.budget) book is in
+    ∙ ap (λ (n : ℕ). replayed (book.cuts ++ option_to_list cut) book.events (Some (new_book n))) a.budget
+    ∙ replayed_more book.cuts (option_to_list cut) book.events (new_book book.budget) book is in
     ap (λ (l : List Event). replayed later.cuts l (Some (new_book later.budget))) a.events
-        ∙ replayed_append later.cuts book.events (event ∷ []) (Some (new_book later.budget))
-        ∙ ap (λ (o : Option State). next later.cuts o event) before
-        ∙ ap (step book event) a.cut_of_it ∙ e
+    ∙ replayed_append later.cuts book.events (event ∷ []) (Some (new_book later.budget))
+    ∙ ap (λ (o : Option State). next later.cuts o event) before
+    ∙ ap (step book event) a.cut_of_it ∙ e
 
 pub replay_new : (budget : ℕ) → IsReplay (new_book budget)
 replay_new budget = refl

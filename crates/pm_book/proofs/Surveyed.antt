@@ -1,12 +1,11 @@
 -- What a pass over the rows has seen, one row further.
-use Rattle.std.proofs.Common.{◌≡◌, ℕ, ◌+◌, ◌*◌, ◌^◌, ◌<◌, ◌≤◌, ◌∙◌, Bool, true, false, List, [], ◌∷◌, ◌++◌, length, take, map, get_or, refl, sym, ap, subst, arith}
-use Rattle.std.specs.Prelude.{Option, Some, None, All, MatchOption, IfSome, slice_get, IsFalse, ◌↔◌, ◌||◌, ◌&&◌, not, if◌then◌else◌}
+use Rattle.std.proofs.Common.{◌≡◌, ℕ, ◌+◌, ◌<◌, ◌∙◌, Bool, true, false, List, [], ◌∷◌, ◌++◌, length, take, map, get_or, refl, sym, ap, subst, arith}
+use Rattle.std.specs.Prelude.{Option, Some, None, All, MatchOption, IfSome, IsFalse, ◌↔◌, ◌||◌, ◌&&◌, not, if◌then◌else◌}
 use Rattle.std.specs.List.{sum_by}
 use Rattle.std.proofs.lemmas.List.{map-append, take_more}
 use Rattle.std.proofs.lemmas.List.Sums.{sum_by_push}
-use Rattle.std.proofs.lemmas.List.Elements.{All-more, All-push, All-append, All-cons, All-head, All-nil}
+use Rattle.std.proofs.lemmas.List.Elements.{All-more, All-push, All-head}
 use Rattle.std.proofs.lemmas.Option.{slice_get-get_or}
-use Rattle.pm_book.specs.declared.row.RowState.{RowState}
 use Rattle.pm_book.specs.declared.row.BookRow.{BookRow}
 use Rattle.pm_book.specs.declared.tables.Spot.{Spot}
 use Rattle.pm_book.specs.Rows.{Row, is_queued, is_running, is_above, is_open, counted_work, work_of}
@@ -51,8 +50,7 @@ pub open_more : (best : Option (List ℕ)) (cuts : List (List ℕ)) (rows : List
 open_more best cuts rows k d was here above within above-is was-is here-is =
     let row = get_or rows k d in
     let P : Row → Type 0 = λ r. is_open best r ≡ false in
-    let here' : here ≡ is_open best (row_seen cuts row) = here-is ∙ ap (λ (b : Bool). (is_queued row.state || is_running row.state) && not b) above-is in
-    (
+    let here' : here ≡ is_open best (row_seen cuts row) = here-is ∙ ap (λ (b : Bool). (is_queued row.state || is_running row.state) && not b) above-is in (
       λ none.
           let both = or_false was here none in
           subst (All P) (sym (seen_more cuts rows k d within)) (All-push P (map (row_seen cuts) (take k rows)) (row_seen cuts row) (was-is.0 both.0) (sym here' ∙ both.1)),

@@ -1,14 +1,14 @@
 -- Rows that tile.
-use Rattle.std.proofs.Common.{◌≡◌, ℕ, ◌⊎◌, ◌∙◌, Bool, true, false, List, [], ◌∷◌, ◌++◌, refl, sym, ap, subst, inl, inr}
-use Rattle.std.specs.Prelude.{All, Contains}
-use Rattle.std.proofs.lemmas.List.Elements.{All-nil, All-cons, All-weaker, All-append, All-contains, Contains-append_cases}
+use Rattle.std.proofs.Common.{ℕ, List, [], ◌∷◌, ◌++◌, refl, sym, ap, subst, inl, inr}
+use Rattle.std.specs.Prelude.{All}
+use Rattle.std.proofs.lemmas.List.Elements.{All-nil, All-cons, All-weaker}
 use Rattle.pm_choice.specs.declared.Bound.{Bound}
-use Rattle.pm_choice.specs.declared.Bound.TheVariants.{At, End}
+use Rattle.pm_choice.specs.declared.Bound.TheVariants.{At}
 use Rattle.pm_choice.specs.Order.{Precedes, PrecedesBound, IsWithin}
-use Rattle.pm_choice.proofs.OrderLemmas.{irreflexive, transitive, not_below, below_bound}
+use Rattle.pm_choice.proofs.OrderLemmas.{below_bound}
 use Rattle.pm_book.specs.Rows.{Row, Tile, is_below}
 use Rattle.pm_book.specs.Always.{IsInOne, Covers}
-use Rattle.pm_book.proofs.Tests.{bool_cases, below_is, not_below_is}
+use Rattle.pm_book.proofs.OrderTests.{bool_cases, below_is, not_below_is}
 
 pub tile_append : (a b c : Bound) (xs ys : List Row) → Tile a b xs → Tile b c ys → Tile a c (xs ++ ys)
 tile_append a b c [] ys p q = subst (λ (x : Bound). Tile x c ys) (sym p) q

@@ -1,10 +1,9 @@
 -- What holds of every book that events made.
-use Rattle.std.specs.Prelude.{◌≡◌, ℕ, ◌↔◌, Bool, true, false, nat_lt, if◌then◌else◌, List, [], ◌∷◌, ◌++◌, length, All, Contains, Option, Some, None}
-use Rattle.pm_choice.specs.declared.Bound.{Bound}
+use Rattle.std.specs.Prelude.{◌≡◌, ℕ, true, false, nat_lt, if◌then◌else◌, List, [], ◌∷◌, ◌++◌, length, All, Contains, Option, Some, None}
 use Rattle.pm_choice.specs.declared.Bound.TheVariants.{At, End}
 use Rattle.pm_choice.specs.Order.{IsWithin}
 use Rattle.pm_book.specs.declared.row.RowState.{RowState}
-use Rattle.pm_book.specs.declared.row.RowState.TheVariants.{Queued, Running, Done, Dropped}
+use Rattle.pm_book.specs.declared.row.RowState.TheVariants.{Queued, Dropped}
 use Rattle.pm_book.specs.declared.event.Event.{Event}
 use Rattle.pm_book.specs.Rows.{Row, State, Tile, is_above, is_found, count_of}
 use Rattle.pm_book.specs.Steps.{new_book, replayed, is_about, parts_after}

@@ -1,10 +1,8 @@
 -- What the calls of a book answer.
-use Rattle.std.specs.Prelude.{◌≡◌, ℕ, ◌<◌, ◌⊎◌, Bool, true, false, ◌&&◌, ◌||◌, ◌==◌, not, List, [], ◌∷◌, length, take, All, Contains, Option, Some, None, slice_get}
+use Rattle.std.specs.Prelude.{◌≡◌, ℕ, ◌<◌, ◌⊎◌, Bool, true, false, List, length, take, All, Contains, Option, Some, None, slice_get}
 use Rattle.std.specs.List.{find}
-use Rattle.pm_choice.specs.declared.Bound.{Bound}
-use Rattle.pm_choice.specs.declared.Bound.TheVariants.{At, End}
+use Rattle.pm_choice.specs.declared.Bound.TheVariants.{At}
 use Rattle.pm_choice.specs.Order.{Precedes, PrecedesBound}
-use Rattle.pm_book.specs.declared.row.RowState.{RowState}
 use Rattle.pm_book.specs.declared.event.Event.{Event}
 use Rattle.pm_book.specs.declared.event.Event.TheVariants.{Took, Claimed, Split as SplitEvent, Found}
 use Rattle.pm_book.specs.declared.ticket.Taken.{Taken}

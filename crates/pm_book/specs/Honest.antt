@@ -1,5 +1,5 @@
 -- What the works of a book's rows say, where each event tells the truth about what is counted.
-use Rattle.std.specs.Prelude.{◌≡◌, ℕ, ◌<◌, ◌⊎◌, ◌↔◌, Bool, true, false, List, [], ◌∷◌, length, All, Contains, Option, Some, None, MatchOption, IsTrue}
+use Rattle.std.specs.Prelude.{◌≡◌, ℕ, ◌<◌, ◌⊎◌, ◌↔◌, Bool, true, false, List, [], ◌∷◌, length, Contains, Option, Some, MatchOption, IsTrue}
 use Rattle.std.specs.List.{find, sum_by}
 use Rattle.pm_space.specs.Key.{Key}
 use Rattle.pm_choice.specs.declared.Bound.{Bound}
@@ -9,9 +9,9 @@ use Rattle.pm_search.specs.Attempts.{IsAttempt, IsRising, IsUpTo}
 use Rattle.pm_search.specs.Turns as search
 use Rattle.pm_search.specs.Work.{Exceeds}
 use Rattle.pm_book.specs.declared.row.RowState.{RowState}
-use Rattle.pm_book.specs.declared.row.RowState.TheVariants.{Queued, Running, Done, Dropped}
+use Rattle.pm_book.specs.declared.row.RowState.TheVariants.{Done}
 use Rattle.pm_book.specs.declared.event.Event.{Event}
-use Rattle.pm_book.specs.declared.event.Event.TheVariants.{Took, Claimed, Split, Returned, Closed, Found}
+use Rattle.pm_book.specs.declared.event.Event.TheVariants.{Returned, Closed, Found}
 use Rattle.pm_book.specs.Rows.{Row, State, work_of, is_found}
 use Rattle.pm_book.specs.Steps.{new_book, is_about, cut_of, next, replayed}
 

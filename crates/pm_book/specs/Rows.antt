@@ -1,13 +1,13 @@
 -- A task book as callers see it: rows in the order of their intervals, the best path, and a history.
-use Rattle.std.specs.Prelude.{◌≡◌, ℕ, ◌<◌, Bool, true, false, ◌&&◌, ◌||◌, not, ◌==◌, if◌then◌else◌, List, [], ◌∷◌, map, Option, Some, None}
+use Rattle.std.specs.Prelude.{◌≡◌, ℕ, Bool, true, false, ◌&&◌, ◌||◌, not, ◌==◌, if◌then◌else◌, List, [], ◌∷◌, map, Option, Some, None}
 use Rattle.std.specs.List.{sum_by, count_by}
 use Rattle.std.specs.Ordering.{nat_cmp, is_lt}
 use Rattle.std.specs.Cmp.Lexicographic.{slice_cmp}
 use Rattle.pm_choice.specs.declared.Bound.{Bound}
 use Rattle.pm_choice.specs.declared.Bound.TheVariants.{At, End}
-use Rattle.pm_choice.specs.Order.{PrecedesBound, IsWithin}
+use Rattle.pm_choice.specs.Order.{PrecedesBound}
 use Rattle.pm_book.specs.declared.row.RowState.{RowState}
-use Rattle.pm_book.specs.declared.row.RowState.TheVariants.{Queued, Running, Done, Dropped}
+use Rattle.pm_book.specs.declared.row.RowState.TheVariants.{Queued, Running, Done}
 use Rattle.pm_book.specs.declared.event.Event.{Event}
 
 -- A row: a part of the search from a list to a bound, and how it stands.

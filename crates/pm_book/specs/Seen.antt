@@ -1,5 +1,5 @@
 -- How the tables of a book stand for its rows, and what they keep.
-use Rattle.std.specs.Prelude.{◌≡◌, ℕ, ◌+◌, ◌-◌, ◌<◌, ◌≤◌, Bool, true, false, ◌&&◌, ◌||◌, ◌==◌, ◌↔◌, not, if◌then◌else◌, IsFalse, MatchOption, List, [], ◌∷◌, ◌++◌, map, length, take, drop, Option, Some, None, option_map, slice_get, slice_index_or, All, vec_len, vec_capacity}
+use Rattle.std.specs.Prelude.{◌≡◌, ℕ, ◌+◌, ◌<◌, ◌≤◌, Bool, true, false, ◌&&◌, ◌||◌, ◌==◌, ◌↔◌, not, if◌then◌else◌, IsFalse, MatchOption, List, [], ◌∷◌, ◌++◌, map, length, take, drop, Option, Some, None, option_map, slice_get, slice_index_or, All, vec_len, vec_capacity}
 use Rattle.std.specs.List.{count_by}
 use Rattle.std.specs.Option.{option_to_list}
 use Rattle.pm_choice.specs.declared.Bound.{Bound}
@@ -81,9 +81,9 @@ pub record HasPut (old new : Tables) (place : ℕ) (rows : List BookRow) (cut : 
   pub best_is : new.best ≡ old.best
   pub budget_is : new.budget ≡ old.budget
 
--- a row under a best path: a Queued row above it is Dropped
-abbrev pub under : List (List ℕ) → List ℕ → BookRow → BookRow
-under cuts path row = if is_queued row.state && is_before path (lower cuts row.from) then record row { state = Dropped } else row
+-- a Queued row is Dropped
+abbrev pub dropped : BookRow → BookRow
+dropped row = if is_queued row.state then record row { state = Dropped } else row
 
 -- the work that counts of a row, and whether it is still to be done, given whether it is above best
 abbrev pub work_unless : Bool → RowState → ℕ

@@ -33,7 +33,12 @@ pub enum ReplayFault {
 /// names its list by its place in `cuts`, and each names the next one.
 ///
 /// Costs two passes over the rows for each event.
-pub fn replay(alloc: Global, budget: u64, cuts: &[Choices], events: &[Event]) -> Result<Book, ReplayFault>
+pub fn replay(
+    alloc: Global,
+    budget: u64,
+    cuts: &[Choices],
+    events: &[Event],
+) -> Result<Book, ReplayFault>
     ensures { MatchResult result (λ book. replayed cuts.now events.now (Some (new_book budget)) ≡ Some book) (FailsBy budget cuts.now events.now) }
 {
     let Ok(mut tables) = Tables::new(alloc, budget) else {
@@ -192,7 +197,12 @@ fn apply_split(tables: &mut Tables, row: u64, cut: &Choices) -> Result<bool, All
     Ok(true)
 }
 
-fn apply_returned(tables: &mut Tables, row: u64, cut: &Choices, work: u64) -> Result<bool, AllocError>
+fn apply_returned(
+    tables: &mut Tables,
+    row: u64,
+    cut: &Choices,
+    work: u64,
+) -> Result<bool, AllocError>
     requires { AreKept tables.old }
     ensures applied { IfOk result (HasApplied (seen tables.old) (Returned row (length tables.old.cuts.items) work) (Some cut.now) (seen tables.new)) }
     ensures kept { AreKept tables.new }

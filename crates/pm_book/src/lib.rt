@@ -19,3 +19,6 @@ pub use laws::{
 };
 pub use row::{BookRow, RowState};
 pub use ticket::{Claimed, Ended, SplitReply, Taken, Ticket};
+
+#[cfg(test)]
+mod tests;

@@ -7,7 +7,7 @@ ghost use Rattle.pm_book.specs.declared.event.Event.TheVariants.{Took, Claimed, 
 ghost use Rattle.pm_book.specs.Rows.{is_running, is_queued, is_found, is_below, is_above, is_before, is_within, spent, work_of};
 ghost use Rattle.pm_book.specs.Steps.{step, new_book, may_return};
 ghost use Rattle.pm_book.specs.Always.{AlwaysHolds};
-ghost use Rattle.pm_book.specs.Seen.{lower, upper, row_seen, seen, best_seen, IsPlace, HasPlaces, running_of, HasRoom, AreKept, IsFirstSpot, IsRunningSpot, HasPut, under, work_unless, open_unless, queued_unless, done_unless, Surveys};
+ghost use Rattle.pm_book.specs.Seen.{lower, upper, row_seen, seen, best_seen, IsPlace, HasPlaces, running_of, HasRoom, AreKept, IsFirstSpot, IsRunningSpot, HasPut, dropped, work_unless, open_unless, queued_unless, done_unless, Surveys};
 
 use super::event::Event;
 use super::order::{is_before, is_same};
@@ -89,14 +89,22 @@ fn open_unless(above: bool, state: RowState) -> bool
 fn queued_unless(above: bool) -> RowState
     ensures { result ≡ queued_unless above }
 {
-    if above { RowState::Dropped } else { RowState::Queued }
+    if above {
+        RowState::Dropped
+    } else {
+        RowState::Queued
+    }
 }
 
 /// The state of a row that ends.
 fn done_unless(above: bool, work: u64, found: bool) -> RowState
     ensures { result ≡ done_unless above work found }
 {
-    if above { RowState::Dropped } else { RowState::Done { work, found } }
+    if above {
+        RowState::Dropped
+    } else {
+        RowState::Done { work, found }
+    }
 }
 
 /// Inserts a row where there is one; there must be room for it.
@@ -126,16 +134,11 @@ fn push_cut(cuts: &mut Vec<Choices>, cut: Option<Choices>)
     }
 }
 
-/// The row under a best path: a Queued row above it is Dropped.
-fn under(cuts: &[Choices], path: &[u32], row: BookRow) -> BookRow
-    requires { IsPlace (length cuts.now) row.from }
-    ensures { result ≡ under cuts.now path.now row }
+/// A Queued row is Dropped.
+fn dropped(row: BookRow) -> BookRow
+    ensures { result ≡ dropped row }
 {
-    let above = match row.from {
-        None => is_before(path, &[]),
-        Some(place) => is_before(path, cuts[place as usize].as_slice()),
-    };
-    if is_queued(row.state) && above {
+    if is_queued(row.state) {
         return BookRow {
             state: RowState::Dropped,
             ..row
@@ -144,20 +147,17 @@ fn under(cuts: &[Choices], path: &[u32], row: BookRow) -> BookRow
     row
 }
 
-/// Drops the Queued rows that are above the path at a place in the cuts, among the rows from `first` on.
-fn drop_rows(rows: &mut Vec<BookRow>, cuts: &[Choices], path: u64, first: usize)
-    requires first { first ≤ vec_len rows.old }
-    requires path { path < length cuts.now }
-    requires places { All (HasPlaces (length cuts.now)) rows.old.items }
-    ensures items { rows.new.items ≡ take first rows.old.items ++ map (under cuts.now (slice_index_or cuts.now path [])) (drop first rows.old.items) }
+/// Drops the Queued rows among the rows from `first` on.
+fn drop_rows(rows: &mut Vec<BookRow>, first: usize)
+    requires { first ≤ vec_len rows.old }
+    ensures items { rows.new.items ≡ take first rows.old.items ++ map dropped (drop first rows.old.items) }
     ensures length { vec_len rows.new ≡ vec_len rows.old }
     ensures capacity { vec_capacity rows.new ≡ vec_capacity rows.old }
 {
-    let path = cuts[path as usize].as_slice();
     let count = rows.len() - first;
     for k in 0..count {
         let place = first + k;
-        rows[place] = under(cuts, path, rows[place]);
+        rows[place] = dropped(rows[place]);
     }
 }
 
@@ -227,7 +227,10 @@ impl Tables {
     {
         match (to, bound) {
             (None, Bound::End) => true,
-            (Some(place), Bound::At(list)) => is_same(self.cuts[place as usize].as_slice(), list.as_slice()),
+            (Some(place), Bound::At(list)) => is_same(
+                self.cuts[place as usize].as_slice(),
+                list.as_slice(),
+            ),
             _ => false,
         }
     }
@@ -269,7 +272,11 @@ impl Tables {
             queued = first_queued(queued, place, *row);
             open |= open_unless(above, row.state);
         }
-        Survey { spent, queued, open }
+        Survey {
+            spent,
+            queued,
+            open,
+        }
     }
 
     /// Makes room for two more rows, lists and events beside those for the ends of the Running rows.
@@ -290,7 +297,14 @@ impl Tables {
 
     /// Puts `row`, and `rest` after it where there is one, in the place of a row, and records an event with
     /// the list that it names.
-    fn put(&mut self, spot: Spot, row: BookRow, rest: Option<BookRow>, cut: Option<Choices>, event: Event)
+    fn put(
+        &mut self,
+        spot: Spot,
+        row: BookRow,
+        rest: Option<BookRow>,
+        cut: Option<Choices>,
+        event: Event,
+    )
         requires kept { AreKept self.old }
         requires there { slice_get self.old.rows.items spot.place ≡ Some spot.row }
         requires room { HasRoom self.old (self.old.running + running_of row.state - running_of spot.row.state + 1) }
@@ -326,7 +340,10 @@ impl Tables {
             state: RowState::Running { worker },
             ..spot.row
         };
-        let event = Event::Took { worker, row: row.number };
+        let event = Event::Took {
+            worker,
+            row: row.number,
+        };
         self.put(spot, row, None, None, event);
     }
 
@@ -343,7 +360,10 @@ impl Tables {
             state: RowState::Running { worker },
             ..spot.row
         };
-        let event = Event::Claimed { worker, row: row.number };
+        let event = Event::Claimed {
+            worker,
+            row: row.number,
+        };
         self.put(spot, row, None, None, event);
     }
 
@@ -357,21 +377,21 @@ impl Tables {
         ensures step { step (seen self.old) (Split spot.row.number (length self.old.cuts.items)) (Some cut) ≡ Some (seen self.new) }
         ensures kept { AreKept self.new }
     {
-        let place = self.cuts.len() as u64;
+        let mid = self.cuts.len() as u64;
         let above = self.is_above(cut.as_slice());
         let row = BookRow {
-            to: Some(place),
+            to: Some(mid),
             ..spot.row
         };
         let rest = BookRow {
             number: self.rows.len() as u64,
-            from: Some(place),
+            from: Some(mid),
             to: spot.row.to,
             state: queued_unless(above),
         };
         let event = Event::Split {
             row: spot.row.number,
-            cut: place,
+            cut: mid,
         };
         self.put(spot, row, Some(rest), Some(cut), event);
     }
@@ -430,7 +450,10 @@ impl Tables {
             state: done_unless(above, work, false),
             ..spot.row
         };
-        let event = Event::Closed { row: row.number, work };
+        let event = Event::Closed {
+            row: row.number,
+            work,
+        };
         self.put(spot, row, None, None, event);
         above
     }
@@ -459,7 +482,8 @@ impl Tables {
         self.put(spot, row, None, Some(path), event);
         if !above {
             self.best = Some(place);
-            drop_rows(&mut self.rows, &self.cuts, place, spot.place + 1);
+            // The rows after it are above the path, and those before it aren't.
+            drop_rows(&mut self.rows, spot.place + 1);
         }
         above
     }

@@ -1,7 +1,7 @@
 use Rattle.std.proofs.Common.{◌≡◌, ◌∙◌, ℕ, subst, false}
 use Rattle.std.specs.Prelude.{All, ◌==◌}
 use Rattle.pm_book.specs.declared.row.BookRow.{BookRow}
-use Rattle.pm_book.proofs.Tests.{same_is}
+use Rattle.pm_book.proofs.OrderTests.{same_is}
 use Rattle.pm_book.proofs.Moves.{spot_places}
 use Rattle.pm_book.proofs.BookLemmas.{unknown_none, unknown_other}
 use Rattle.pm_book.proofs.book.locate.Goals as goal

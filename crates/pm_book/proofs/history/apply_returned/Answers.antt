@@ -1,10 +1,8 @@
-use Rattle.std.proofs.Common.{◌≡◌, ◌∙◌, ℕ, List, ap, sym, refl, true, false, [], ◌∷◌, length}
-use Rattle.std.specs.Prelude.{Some, None, ◌==◌, ◌&&◌}
-use Rattle.pm_book.specs.declared.row.RowState.TheVariants.{Queued, Running, Done}
-use Rattle.pm_book.specs.declared.event.Event.TheVariants.{Claimed, Closed, Split, Returned, Found}
-use Rattle.pm_book.specs.Rows.{is_queued, is_running, is_before, is_below, is_within}
-use Rattle.pm_book.specs.Steps.{with_state, ended, returned, part_below, part_from, drop_above, is_next_cut, may_return}
-use Rattle.pm_book.specs.Seen.{seen, row_seen, lower, upper}
+use Rattle.std.proofs.Common.{◌≡◌, ◌∙◌, ℕ, List, ap, sym, refl, false, length}
+use Rattle.std.specs.Prelude.{Some, ◌==◌, ◌&&◌}
+use Rattle.pm_book.specs.declared.event.Event.TheVariants.{Returned}
+use Rattle.pm_book.specs.Steps.{ended, returned, is_next_cut, may_return}
+use Rattle.pm_book.specs.Seen.{seen, row_seen}
 use Rattle.pm_book.proofs.Moves.{spot_places}
 use Rattle.pm_book.proofs.BookLemmas.{unfound, refused, where_fails, after_fails}
 use Rattle.pm_book.proofs.history.apply_returned.Goals as goal

@@ -1,5 +1,5 @@
 use Rattle.std.proofs.Common.{◌∙◌}
-use Rattle.pm_book.proofs.Tests.{order_tells}
+use Rattle.pm_book.proofs.OrderTests.{order_tells}
 use Rattle.pm_book.proofs.order.is_before.Goals as goal
 
 pub returns : goal.returns

@@ -1,5 +1,5 @@
 use Rattle.std.proofs.Common.{◌∙◌, sym}
-use Rattle.pm_book.proofs.Tests.{order_equal}
+use Rattle.pm_book.proofs.OrderTests.{order_equal}
 use Rattle.pm_book.proofs.order.is_same.Goals as goal
 
 pub returns : goal.returns

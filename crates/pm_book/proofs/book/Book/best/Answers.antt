@@ -1,5 +1,4 @@
 use Rattle.std.proofs.Common.{subst}
-use Rattle.pm_book.specs.Rows.{State}
 use Rattle.pm_book.proofs.BestLemmas.{FindsTell, best_tells}
 use Rattle.pm_book.proofs.book.Book.best.Goals as goal
 

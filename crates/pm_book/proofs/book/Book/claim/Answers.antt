@@ -1,13 +1,12 @@
-use Rattle.std.proofs.Common.{◌≡◌, ◌∙◌, ℕ, List, ap, subst, sym, refl, true, false, length}
+use Rattle.std.proofs.Common.{◌≡◌, ◌∙◌, ℕ, List, ap, subst, sym, refl, true}
 use Rattle.std.specs.Prelude.{Some, None, Contains, slice_get, ◌==◌}
 use Rattle.pm_book.specs.declared.row.BookRow.{BookRow}
 use Rattle.pm_book.specs.declared.event.Event.TheVariants.{Claimed}
-use Rattle.pm_book.specs.declared.ticket.Claimed.TheVariants.{Task, Gone}
-use Rattle.pm_book.specs.Rows.{State, Row, Span, is_queued}
+use Rattle.pm_book.specs.Rows.{State, Row, is_queued}
 use Rattle.pm_book.specs.Steps.{step}
 use Rattle.pm_book.specs.Seen.{seen, row_seen, IsFirstSpot}
-use Rattle.pm_book.specs.Answers.{HasClaimed, IsQueuedAt}
-use Rattle.pm_book.proofs.Tests.{same_is}
+use Rattle.pm_book.specs.Answers.{IsQueuedAt}
+use Rattle.pm_book.proofs.OrderTests.{same_is}
 use Rattle.pm_book.proofs.Moves.{spot_places}
 use Rattle.pm_book.proofs.BookLemmas.{always_of, sound_step, sound_same, none_numbered, spot_unique, spot_within, spot_interval, any_err, started}
 use Rattle.pm_book.proofs.book.Book.claim.Goals as goal
@@ -19,8 +18,7 @@ returns-in_default-clause-ok c =
 pub returns-then-not-is_queued-clause-ok : goal.returns-then-not-is_queued-clause-ok
 returns-then-not-is_queued-clause-ok c =
     let old = c.self.inside.tables in
-    let spot = c.in-Some.spot in
-    (
+    let spot = c.in-Some.spot in (
       λ queued.
           let same : row_seen old.cuts.items spot.row ≡ queued.0 =
           spot_unique old spot (always_of old c.self.invariant) c.in-Some.ensures.there queued.0 (subst (λ (b : State). Contains b.rows queued.0) (sym c.self.view_is) queued.1)
@@ -67,10 +65,9 @@ returns-clause-ok c =
     let mid = c.make_room.new.self in
     let spot = c.in-Some.spot in
     let number : spot.row.number ≡ c.args.row = same_is spot.row.number c.args.row c.in-Some.ensures.passes in
-    let queued : IsQueuedAt (seen old) c.args.row = (row_seen old.cuts.items spot.row, spot_within old spot c.in-Some.ensures.there, number, sym c.is_queued.ensures ∙ c.if-not-is_queued.false) in
-    (
+    let queued : IsQueuedAt (seen old) c.args.row = (row_seen old.cuts.items spot.row, spot_within old spot c.in-Some.ensures.there, number, sym c.is_queued.ensures ∙ c.if-not-is_queued.false) in (
       subst (λ (b : State). IsQueuedAt b c.args.row) c.self.view_is queued,
       started c.args.self.now mid c.claim.new.self spot (λ row. row.number == c.args.row) (Claimed c.args.worker c.args.row) c.in_ok-ticket.ticket (c.in_ok-make_room.ensures.seen ∙ c.self.view_is) (λ r. refl)
-      (subst (λ (l : List BookRow). IsFirstSpot (λ row. row.number == c.args.row) l spot) (sym c.in_ok-make_room.ensures.rows) c.in-Some.ensures) c.in_ok-ticket.ensures
-      (ap (λ (n : ℕ). step (seen mid) (Claimed c.args.worker n) None) (sym number) ∙ c.claim.ensures.step),
+          (subst (λ (l : List BookRow). IsFirstSpot (λ row. row.number == c.args.row) l spot) (sym c.in_ok-make_room.ensures.rows) c.in-Some.ensures) c.in_ok-ticket.ensures
+          (ap (λ (n : ℕ). step (seen mid) (Claimed c.args.worker n) None) (sym number) ∙ c.claim.ensures.step),
     )

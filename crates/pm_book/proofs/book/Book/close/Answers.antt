@@ -1,4 +1,4 @@
-use Rattle.std.proofs.Common.{◌≡◌, ◌∙◌, ℕ, subst, true, false}
+use Rattle.std.proofs.Common.{subst, true, false}
 use Rattle.std.specs.Prelude.{None}
 use Rattle.pm_book.specs.declared.event.Event.TheVariants.{Closed}
 use Rattle.pm_book.specs.declared.ticket.Ended.TheVariants.{Kept, Dropped}

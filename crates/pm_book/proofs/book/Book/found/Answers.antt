@@ -1,4 +1,4 @@
-use Rattle.std.proofs.Common.{◌≡◌, ◌∙◌, ℕ, subst, true, false, length}
+use Rattle.std.proofs.Common.{subst, true, false, length}
 use Rattle.std.specs.Prelude.{Some}
 use Rattle.pm_book.specs.declared.event.Event.TheVariants.{Found}
 use Rattle.pm_book.specs.declared.ticket.Ended.TheVariants.{Kept, Dropped}

@@ -1,5 +1,4 @@
-use Rattle.std.proofs.Common.{◌≡◌, ◌∙◌, ◌⊎◌, ap, List, ℕ, true, false, inl, inr, refl, length, subst, sym, arith, suc}
-use Rattle.std.specs.Prelude.{Some}
+use Rattle.std.proofs.Common.{◌≡◌, ◌∙◌, ◌⊎◌, ap, List, ℕ, true, false, inl, inr, refl, sym}
 use Rattle.pm_book.specs.declared.row.RowState.TheVariants.{Queued, Done}
 use Rattle.pm_book.specs.Rows.{is_above, is_before, is_running}
 use Rattle.pm_book.specs.Seen.{seen, lower}

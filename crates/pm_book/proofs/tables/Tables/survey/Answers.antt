@@ -1,9 +1,8 @@
-use Rattle.std.proofs.Common.{◌≡◌, ◌<◌, ◌≤◌, ◌+◌, ◌∙◌, ap, arith, subst, sym, length, get_or, List, ℕ, true, false, map, take}
-use Rattle.std.specs.Prelude.{None, Some, All, MatchOption, IsFalse, ◌↔◌, Option}
+use Rattle.std.proofs.Common.{◌≡◌, ◌<◌, ◌∙◌, ap, arith, subst, length, get_or, List, ℕ, true, false, map, take}
+use Rattle.std.specs.Prelude.{None, All, MatchOption, IsFalse, ◌↔◌}
 use Rattle.std.specs.List.{sum_by}
 use Rattle.pm_book.specs.declared.row.RowState.TheVariants.{Queued}
 use Rattle.pm_book.specs.declared.row.BookRow.{BookRow}
-use Rattle.pm_book.specs.declared.tables.Spot.{Spot}
 use Rattle.pm_book.specs.Rows.{is_above, is_queued, is_open, counted_work, Row}
 use Rattle.pm_book.specs.Seen.{seen, lower, row_seen, IsFirstSpot, work_unless, open_unless}
 use Rattle.pm_book.proofs.PutRows.{take_whole}
