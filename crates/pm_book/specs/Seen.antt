@@ -12,7 +12,7 @@ use Rattle.pm_book.specs.declared.tables.Tables.{Tables}
 use Rattle.pm_book.specs.declared.tables.Spot.{Spot}
 use Rattle.pm_book.specs.declared.tables.Survey.{Survey}
 use Rattle.pm_book.specs.Steps.{IsReplay}
-use Rattle.pm_book.specs.Rows.{Row, State, is_running, is_queued, is_before, work_of, spent, is_open}
+use Rattle.pm_book.specs.Rows.{Row, State, is_running, is_queued, work_of, spent, is_open}
 
 -- the lower end of a row, from its place among the cuts
 abbrev pub lower : List (List ℕ) → Option ℕ → List ℕ

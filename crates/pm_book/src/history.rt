@@ -32,7 +32,7 @@ pub enum ReplayFault {
 /// The book that a history makes: the events in their order, from a new book with this budget. An event
 /// names its list by its place in `cuts`, and each names the next one.
 ///
-/// Costs two passes over the rows for each event.
+/// Costs one pass over the rows for each event, and a copy of each list that an event names.
 pub fn replay(
     alloc: Global,
     budget: u64,

@@ -1,5 +1,9 @@
+ghost use Rattle.std.specs.Prelude.{◌≡◌};
+ghost use Rattle.pm_book.specs.Rows.{is_within};
+
+use super::order::{is_before, is_below};
 use super::*;
-use pm_choice::{Bound, Choices, compare, precedes};
+use pm_choice::{Bound, Choices};
 use std::alloc::Global;
 use std::process::Abort;
 
@@ -52,27 +56,26 @@ fn outcome(ended: Ended) -> &'static str {
     }
 }
 
-fn found(
-    rt: &impl Abort,
-    book: &mut Book,
-    ticket: Ticket,
-    path: Choices,
-    work: u64,
-) -> &'static str {
-    assert!(rt; !compare(path.as_slice(), ticket.from()).is_lt());
-    assert!(rt; precedes(path.as_slice(), ticket.to()));
+/// Whether a list is in the interval of a ticket.
+fn holds(ticket: &Ticket, list: &[u32]) -> bool
+    ensures { result ≡ is_within ticket.now.from ticket.now.to list.now }
+{
+    !is_before(list, ticket.from()) && is_below(list, ticket.to())
+}
+
+fn found(book: &mut Book, ticket: Ticket, path: Choices, work: u64) -> &'static str {
+    if !holds(&ticket, path.as_slice()) {
+        ticket.discard();
+        return "outside";
+    }
     outcome(book.found(ticket, path, work))
 }
 
-fn given_back(
-    rt: &impl Abort,
-    book: &mut Book,
-    ticket: Ticket,
-    at: Choices,
-    work: u64,
-) -> &'static str {
-    assert!(rt; compare(ticket.from(), at.as_slice()).is_lt());
-    assert!(rt; precedes(at.as_slice(), ticket.to()));
+fn given_back(book: &mut Book, ticket: Ticket, at: Choices, work: u64) -> &'static str {
+    if !holds(&ticket, at.as_slice()) || !is_before(ticket.from(), at.as_slice()) {
+        ticket.discard();
+        return "outside";
+    }
     outcome(book.give_back(ticket, Some(at), work))
 }
 
@@ -105,7 +108,7 @@ fn eleven_steps(rt: &impl Abort, alloc: Global) -> (Book, Ticket) {
     assert!(rt; matches!(third.to(), Bound::End));
     assert_eq!(rt; no_task(rt, &mut book, 3), "idle");
     assert_eq!(rt;
-        given_back(rt, &mut book, second, list(rt, alloc, &[0, 2]), 5),
+        given_back(&mut book, second, list(rt, alloc, &[0, 2]), 5),
         "kept"
     );
     assert_eq!(rt; book.queued(), 1);
@@ -114,7 +117,7 @@ fn eleven_steps(rt: &impl Abort, alloc: Global) -> (Book, Ticket) {
     let fourth = claimed(rt, &mut book, 3, 3).expect(rt, "row 3");
     assert!(rt; book.wanted(&fourth));
     assert_eq!(rt;
-        found(rt, &mut book, fourth, list(rt, alloc, &[0, 2, 4]), 7),
+        found(&mut book, fourth, list(rt, alloc, &[0, 2, 4]), 7),
         "kept"
     );
     assert_eq!(rt; book.spent(), 12);
@@ -223,7 +226,7 @@ fn long_example(rt: HostRuntime) {
 fn long_example_with_a_path_in_row_0(rt: HostRuntime) {
     let (mut book, whole) = eleven_steps(&rt, rt.alloc());
     let path = list(&rt, rt.alloc(), &[0, 0]);
-    assert_eq!(rt; found(&rt, &mut book, whole, path, 4), "kept");
+    assert_eq!(rt; found(&mut book, whole, path, 4), "kept");
     let best: &[u32] = &[0, 0];
     assert_eq!(rt; book.best(), Some(best));
     assert_eq!(rt; book.spent(), 4);

@@ -1,5 +1,4 @@
-use Rattle.std.proofs.Common.{◌≡◌, ◌∙◌, ◌+◌, ap, sym, refl, Bool, List, ℕ, [], ◌∷◌, ◌++◌, true, arith, length, take, drop, map, get_or, length-append}
-use Rattle.std.proofs.Math.Seq.{get_or-append_seam}
+use Rattle.std.proofs.Common.{◌≡◌, ◌∙◌, ◌+◌, ap, sym, refl, Bool, List, ℕ, [], ◌∷◌, true, arith, length, length-append}
 use Rattle.pm_book.specs.declared.event.Event.TheVariants.{Found}
 use Rattle.std.specs.Prelude.{Some, None, if◌then◌else◌}
 use Rattle.std.proofs.lemmas.Option.{slice_get_within}
