@@ -1,6 +1,6 @@
 -- Counts of entries: they join along neighbouring intervals.
-use Rattle.std.proofs.Common.{ℕ, ◌+◌, ◌<◌, ◌⊎◌, List, [], ◌∷◌, ◌++◌, refl, sym, subst, inl, inr, arith, length-append}
-use Rattle.std.specs.Prelude.{All, Contains}
+use Rattle.std.proofs.Common.{◌≡◌, Bool, ℕ, ◌+◌, ◌<◌, ◌⊎◌, List, [], ◌∷◌, ◌++◌, refl, sym, subst, inl, inr, arith, length-append}
+use Rattle.std.specs.Prelude.{All, Contains, IsFalse}
 use Rattle.std.proofs.lemmas.List.Elements.{All-append, Contains-get_or, Contains-append_left, Contains-append_right, Contains-append_cases}
 use Rattle.pm_space.specs.Key.{Key}
 use Rattle.pm_choice.specs.declared.Bound.{Bound}
@@ -13,7 +13,7 @@ use Rattle.pm_search.specs.Work.{Exceeds}
 use Rattle.pm_search.proofs.LawLemmas.{head_is, tail_is}
 use Rattle.pm_search.proofs.WorkLemmas.{no_longer}
 use Rattle.pm_book.specs.Rows.{is_before}
-use Rattle.pm_book.specs.Honest.{Entries, attempts_of, HasCount, Closes, Finds, HasMore}
+use Rattle.pm_book.specs.Honest.{Entries, entries_of, attempts_of, HasCount, Closes, Finds, HasMore}
 use Rattle.pm_book.proofs.OrderTests.{bool_cases, before_is, not_before_is}
 
 each_in : (P : List ℕ → Type 0) (all : List (List ℕ)) → ((x : List ℕ) → Contains all x → P x) → All P all
@@ -151,3 +151,18 @@ level_exceeds key most has work few (inr closed) =
     let count = no_longer has.all closed.counted.0 has.rising closed.counted.1.rising
     (λ l within. let is = has.each l within in (closed.counted.1.exactly l).1 (is.0, record { not_below = λ h. h; below = tt })) in
     omega (arith, count, closed.counted.2, few, has.more)
+
+-- where the whole of a list closes, none of its entries is marked, and all are counted
+pub none_marked : (all : List (List ℕ)) (marked : List ℕ → Bool) (work : ℕ) → Closes (entries_of all marked) [] End work → All (λ list. IsFalse (marked list)) all
+none_marked all marked work closes =
+    each_in (λ (list : List ℕ). IsFalse (marked list)) all
+    (λ list within. elim (bool_cases (marked list)) [
+      | inl yes' ↦ absurd (closes.none list (within, yes') (record { not_below = λ h. h; below = tt }))
+      | inr not' ↦ not'
+    ])
+
+pub all_counted : (all : List (List ℕ)) (marked : List ℕ → Bool) → IsRising all → (work : ℕ) → Closes (entries_of all marked) [] End work → work ≡ length all
+all_counted all marked rising work closes =
+    let there = no_longer closes.count.all all closes.count.rising rising (λ l within. ((closes.count.exactly l).0 within).0) in
+    let back = no_longer all closes.count.all rising closes.count.rising (λ l within. (closes.count.exactly l).1 (within, record { not_below = λ h. h; below = tt })) in
+    omega (arith, there, back, closes.count.counted)

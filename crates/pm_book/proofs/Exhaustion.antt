@@ -1,5 +1,5 @@
 -- A settled book that honest events made tells of all entries.
-use Rattle.std.proofs.Common.{◌≡◌, ℕ, ◌+◌, ◌⊎◌, ◌∙◌, true, false, List, [], ◌∷◌, ◌++◌, length, refl, sym, ap, subst, inl, inr, arith, get_or}
+use Rattle.std.proofs.Common.{Bool, ◌≡◌, ℕ, ◌+◌, ◌⊎◌, ◌∙◌, true, false, List, [], ◌∷◌, ◌++◌, length, refl, sym, ap, subst, inl, inr, arith, get_or}
 use Rattle.std.specs.Prelude.{Option, Some, None, All, if◌then◌else◌}
 use Rattle.std.specs.List.{sum_by}
 use Rattle.std.proofs.lemmas.List.Sums.{sum_by-cons}
@@ -8,6 +8,7 @@ use Rattle.pm_space.specs.Key.{Key}
 use Rattle.pm_choice.specs.declared.Bound.{Bound}
 use Rattle.pm_choice.specs.declared.Bound.TheVariants.{At, End}
 use Rattle.pm_choice.specs.Order.{IsWithin}
+use Rattle.pm_search.specs.Attempts.{IsRising}
 use Rattle.pm_book.specs.declared.row.RowState.{RowState}
 use Rattle.pm_book.specs.declared.row.RowState.TheVariants.{Queued, Running, Done, Dropped}
 use Rattle.pm_book.specs.declared.event.Event.{Event}
@@ -15,14 +16,14 @@ use Rattle.pm_book.specs.declared.event.Event.TheVariants.{Returned, Found}
 use Rattle.pm_book.specs.Rows.{Row, State, Tile, is_running, is_found, is_above, work_of}
 use Rattle.pm_book.specs.Steps.{new_book, with_state, part_below, part_from, drop_above, step, replayed, cut_of}
 use Rattle.pm_book.specs.Always.{HasBest, AlwaysHolds}
-use Rattle.pm_book.specs.Honest.{Entries, attempts_of, Closes, Finds, IsTrueAt, IsHonest, AreHonest, front_from, front_of, front_work, EndsFound, SettledBooksTell, SettledBooksTellOfLevel}
+use Rattle.pm_book.specs.Honest.{Entries, attempts_of, Closes, Finds, IsTrueAt, IsHonest, AreHonest, front_from, front_of, front_work, EndsFound, SettledBooksTell, SettledBooksTellOfList, SettledBooksTellOfLevel, entries_of}
 use Rattle.pm_book.proofs.OrderTests.{before_is, above_more}
 use Rattle.pm_book.proofs.Tiles.{tile_round, TilesRound, ends_before, begins_after, none_empty}
 use Rattle.pm_book.proofs.Changes.{Change, IsAllowed, IsBy, stepped}
 use Rattle.pm_book.proofs.Changes.Change.{starts, divides, drops, requeues, gives_back, closes, finds}
 use Rattle.pm_book.proofs.Kept.{changed_rows, rows_after, best_after, all_left, all_right}
 use Rattle.pm_book.proofs.Always.{among, one, two, moved, always_stepped, always_new, each_replay_holds, none_stays}
-use Rattle.pm_book.proofs.Counts.{closes_nothing, closes_join, finds_join, more_closed, more_found, level_closes, level_finds, level_exceeds}
+use Rattle.pm_book.proofs.Counts.{closes_nothing, closes_join, finds_join, more_closed, more_found, none_marked, all_counted, level_closes, level_finds, level_exceeds}
 
 -- What a row says of the entries: a Done row has told the truth. Of a found row the path is best, or the
 -- row is above best.
@@ -249,6 +250,15 @@ settled_tells entries most budget cuts events book e honest settled =
             closed = λ few ends. absurd (ends found.3);
           }
     ]
+
+pub settled_tells_list : (all : List (List ℕ)) (marked : List ℕ → Bool) → IsRising all → SettledBooksTellOfList all marked
+settled_tells_list all marked rising most budget cuts events book e honest settled =
+    let tells = settled_tells (entries_of all marked) most budget cuts events book e honest settled in
+    record {
+      over = tells.over;
+      found = tells.found;
+      closed = λ few ends. let closed = tells.closed few ends in (none_marked all marked (front_work book) closed, all_counted all marked rising (front_work book) closed);
+    }
 
 pub settled_tells_level : (key : Key) → SettledBooksTellOfLevel key
 settled_tells_level key most budget cuts events book e honest settled =

@@ -79,3 +79,13 @@ pub order_equal : (r : Ordering) (a b : List ℕ) → IsOrderOf r a b → (is_eq
 order_equal Less a b is = (λ e. absurd cc, λ same. absurd (irreflexive b (subst (λ (l : List ℕ). Precedes l b) same is)))
 order_equal Equal a b is = (λ e. is, λ same. refl)
 order_equal Greater a b is = (λ e. absurd cc, λ same. absurd (irreflexive b (subst (λ (l : List ℕ). Precedes b l) same is)))
+
+-- a row that is returned stays whole, or is parted
+pub whole_is : (above beyond : Bool) → (above || not beyond) ≡ true → (above ≡ true) ⊎ (beyond ≡ false)
+whole_is true beyond e = inl refl
+whole_is false beyond e = inr (not_is beyond e)
+
+pub parted_is : (above beyond : Bool) → (above || not beyond) ≡ false → (above ≡ false) × (beyond ≡ true)
+parted_is true beyond e = absurd cc
+parted_is false true e = (refl, refl)
+parted_is false false e = absurd cc

@@ -1,5 +1,5 @@
 -- What the works of a book's rows say, where each event tells the truth about what is counted.
-use Rattle.std.specs.Prelude.{◌≡◌, ℕ, ◌<◌, ◌⊎◌, ◌↔◌, Bool, true, false, List, [], ◌∷◌, length, Contains, Option, Some, MatchOption, IsTrue}
+use Rattle.std.specs.Prelude.{◌≡◌, ℕ, ◌<◌, ◌⊎◌, ◌↔◌, Bool, true, false, List, [], ◌∷◌, length, Contains, Option, Some, MatchOption, IsTrue, IsFalse, All}
 use Rattle.std.specs.List.{find, sum_by}
 use Rattle.pm_space.specs.Key.{Key}
 use Rattle.pm_choice.specs.declared.Bound.{Bound}
@@ -113,6 +113,17 @@ abbrev pub SettledBooksTell : Entries → Type 0
 SettledBooksTell entries =
     (most budget : ℕ) (cuts : List (List ℕ)) (events : List Event) (book : State) → replayed cuts events (Some (new_book budget)) ≡ Some book
     → AreHonest entries cuts events (Some (new_book budget)) → IsSettled most book → TellsOf entries most book
+
+-- The same of the entries of a list.
+pub record TellsOfList (all : List (List ℕ)) (marked : List ℕ → Bool) (most : ℕ) (book : State) : Type 0 where
+  pub over : most < front_work book → HasMore (entries_of all marked) most
+  pub found : (¬ (most < front_work book)) → EndsFound (front_of book.rows) → (path : List ℕ) × (book.best ≡ Some path) × Finds (entries_of all marked) [] End path (front_work book)
+  pub closed : (¬ (most < front_work book)) → (¬ EndsFound (front_of book.rows)) → All (λ list. IsFalse (marked list)) all × (front_work book ≡ length all)
+
+abbrev pub SettledBooksTellOfList : List (List ℕ) → (List ℕ → Bool) → Type 0
+SettledBooksTellOfList all marked =
+    (most budget : ℕ) (cuts : List (List ℕ)) (events : List Event) (book : State) → replayed cuts events (Some (new_book budget)) ≡ Some book
+    → AreHonest (entries_of all marked) cuts events (Some (new_book budget)) → IsSettled most book → TellsOfList all marked most book
 
 -- The same of the attempts of a level, in the words of its search.
 pub record TellsOfLevel (key : Key) (most : ℕ) (book : State) : Type 0 where

@@ -2,7 +2,7 @@
 ghost use Rattle.std.specs.Prelude.{ℕ, Bool, List};
 ghost use Rattle.pm_search.specs.Attempts.{IsRising};
 ghost use Rattle.pm_book.specs.Always.{EachReplayHolds, EachListIsInOneRow, EachEventCoversItsRow};
-ghost use Rattle.pm_book.specs.Honest.{entries_of, SettledBooksTell, SettledBooksTellOfLevel};
+ghost use Rattle.pm_book.specs.Honest.{SettledBooksTellOfList, SettledBooksTellOfLevel};
 
 use pm_space::Space;
 
@@ -29,7 +29,7 @@ pub fn each_event_covers_its_row()
 /// is the least marked entry, and the work is the number of entries up to it. Else no entry is marked, and
 /// the work is the number of entries.
 pub fn settled_books_tell()
-    ensures { (all : List (List ℕ)) (marked : List ℕ → Bool) → IsRising all → SettledBooksTell (entries_of all marked) }
+    ensures { (all : List (List ℕ)) (marked : List ℕ → Bool) → IsRising all → SettledBooksTellOfList all marked }
 {}
 
 /// The same of the attempts of a level, of which the complete lists are marked.

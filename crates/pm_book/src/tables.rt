@@ -1,7 +1,7 @@
 //! The tables of a book, and the changes of one row.
 #![tactic(auto)]
 
-ghost use Rattle.std.specs.Prelude.{◌≡◌, ℕ, ◌+◌, ◌-◌, ◌*◌, ◌^◌, ◌<◌, ◌≤◌, ◌↔◌, ◌==◌, ◌&&◌, IsTrue, Some, None, true, false, [], ◌∷◌, ◌++◌, map, length, take, drop, slice_get, All, MatchOption, MatchBool, IfOk, IfSome, OnOk, OnErr, vec_len, vec_capacity, option_to_list, slice_index_or};
+ghost use Rattle.std.specs.Prelude.{◌≡◌, ℕ, ◌+◌, ◌-◌, ◌*◌, ◌^◌, ◌<◌, ◌≤◌, ◌↔◌, ◌==◌, ◌||◌, not, IsTrue, Some, None, true, false, [], ◌∷◌, ◌++◌, map, length, take, drop, slice_get, All, MatchOption, MatchBool, IfOk, IfSome, OnOk, OnErr, vec_len, vec_capacity, option_to_list, slice_index_or};
 ghost use Rattle.std.specs.List.{count_by};
 ghost use Rattle.pm_book.specs.declared.event.Event.TheVariants.{Took, Claimed, Split, Returned, Closed, Found};
 ghost use Rattle.pm_book.specs.Rows.{is_running, is_queued, is_found, is_below, is_above, is_before, is_within, spent, work_of};
@@ -105,6 +105,13 @@ fn done_unless(above: bool, work: u64, found: bool) -> RowState
     } else {
         RowState::Done { work, found }
     }
+}
+
+/// Whether a row that is returned stays whole: it is above best, or is returned at its lower end.
+fn stays_whole(above: bool, beyond: bool) -> bool
+    ensures { result ≡ (above || not beyond) }
+{
+    above || !beyond
 }
 
 /// Inserts a row where there is one; there must be room for it.
@@ -414,7 +421,7 @@ impl Tables {
         let from = self.lower(spot.row.from);
         let above = self.is_above(from);
         let beyond = is_before(from, cut.as_slice());
-        if above || !beyond {
+        if stays_whole(above, beyond) {
             let row = BookRow {
                 state: queued_unless(above),
                 ..spot.row

@@ -1,6 +1,5 @@
-use Rattle.pm_book.specs.Honest.{entries_of}
-use Rattle.pm_book.proofs.Exhaustion.{settled_tells}
+use Rattle.pm_book.proofs.Exhaustion.{settled_tells_list}
 use Rattle.pm_book.proofs.laws.settled_books_tell.Goals as goal
 
 pub returns : goal.returns
-returns c = λ all marked rising. settled_tells (entries_of all marked)
+returns c = settled_tells_list
