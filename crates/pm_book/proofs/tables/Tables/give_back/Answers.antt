@@ -1,4 +1,4 @@
-use Rattle.std.proofs.Common.{◌≡◌, ◌∙◌, ◌⊎◌, ap, List, ℕ, true, false, inl, inr, refl, sym}
+use Rattle.std.proofs.Common.{◌∙◌, ap, List, ℕ, false, refl, sym}
 use Rattle.pm_book.specs.declared.row.RowState.TheVariants.{Queued, Done}
 use Rattle.pm_book.specs.Rows.{is_above, is_before, is_running}
 use Rattle.pm_book.specs.Seen.{seen, lower}
