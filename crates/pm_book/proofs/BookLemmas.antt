@@ -1,7 +1,6 @@
 -- What the calls of a book know of its tables.
 use Rattle.std.proofs.Common.{◌≡◌, ℕ, zero, suc, ◌+◌, ◌<◌, ◌≤◌, ◌⊎◌, ◌∙◌, Bool, true, false, cond, List, [], ◌∷◌, ◌++◌, length, take, drop, map, refl, sym, ap, subst, inl, inr, arith}
-use Rattle.std.specs.Prelude.{Option, Some, None, All, Contains, slice_get, ◌==◌, ◌&&◌, ◌||◌, ◌↔◌, not, nat_lt, if◌then◌else◌, IsTrue, IsFalse, Result, Ok, Err, OnErr}
-use Rattle.std.proofs.lemmas.Bool.{cases_lt}
+use Rattle.std.specs.Prelude.{Option, Some, None, All, Contains, slice_get, ◌==◌, ◌&&◌, ◌||◌, ◌↔◌, not, nat_lt, if◌then◌else◌, IsTrue, IsFalse, Result, Ok, Err, OnErr, MatchOption}
 use Rattle.std.specs.List.{find}
 use Rattle.std.proofs.lemmas.List.Elements.{All-contains, Contains-append_right, Contains-append_cases}
 use Rattle.std.proofs.lemmas.Bool.Decides.{nat_tests}
@@ -14,17 +13,17 @@ use Rattle.pm_book.specs.declared.event.Event.{Event}
 use Rattle.pm_book.specs.declared.tables.Tables.{Tables}
 use Rattle.pm_book.specs.declared.tables.Spot.{Spot}
 use Rattle.pm_book.specs.declared.tables.Survey.{Survey}
-use Rattle.pm_book.specs.Rows.{Row, State, Span, span_of, Tile, is_before, is_below, is_within, is_queued, is_running, is_above, count_of, spent}
+use Rattle.pm_book.specs.Rows.{Row, State, Span, span_of, Tile, is_before, is_below, is_within, is_queued, is_running, is_above, count_of}
 use Rattle.pm_book.specs.Steps.{where_true, is_about, parts_after, may_return, step, IsReplay}
 use Rattle.pm_book.specs.Always.{AlwaysHolds}
-use Rattle.pm_book.specs.Seen.{lower, upper, row_seen, seen, AreKept, IsFirstSpot, IsSound, Surveys}
-use Rattle.pm_book.specs.Answers.{Knows, IsSpotOf, HasStarted, IsOver, NoneQueued, IsInside}
-use Rattle.pm_book.proofs.OrderTests.{bool_cases, before_is, below_is, not_before_is, is_not_before, and_is, not_is}
+use Rattle.pm_book.specs.Seen.{HasPlaces, lower, upper, row_seen, seen, AreKept, IsFirstSpot, IsSound, Surveys}
+use Rattle.pm_book.specs.Answers.{IsQueuedAt, Knows, IsSpotOf, HasStarted, IsOver, NoneQueued, IsInside}
+use Rattle.pm_book.proofs.OrderTests.{bool_cases, before_is, below_is, not_before_is, is_not_before, and_is, not_is, same_is}
 use Rattle.pm_book.proofs.Tiles.{tile_round}
 use Rattle.pm_book.proofs.Kept.{count_append, count_cons, where_in}
 use Rattle.pm_book.proofs.Always.{each_replay_holds}
 use Rattle.pm_book.proofs.Places.{seen_split, all_seen, find_at, no_row, no_parts}
-use Rattle.pm_book.proofs.Moves.{same_self, and_holds}
+use Rattle.pm_book.proofs.Moves.{same_self, and_holds, spot_places}
 use Rattle.pm_book.proofs.Replays.{replay_more}
 
 pub always_of : (t : Tables) → IsSound t → AlwaysHolds (seen t)
@@ -124,12 +123,9 @@ refused t spot test event cut about first none =
     no_parts (seen t) event cut (map (row_seen t.cuts.items) (take spot.place t.rows.items)) (row_seen t.cuts.items spot.row) (map (row_seen t.cuts.items) (drop (spot.place + 1) t.rows.items))
     (seen_split t.cuts.items t.rows.items spot first.there) (all_seen t.cuts.items test (is_about event) about (take spot.place t.rows.items) first.first) (about spot.row ∙ first.passes) none
 
-and_fails : (a b : Bool) → b ≡ false → (a && b) ≡ false
+pub and_fails : (a b : Bool) → b ≡ false → (a && b) ≡ false
 and_fails true b e = e
 and_fails false b e = refl
-
-pub after_fails : (a b : Bool) → b ≡ false → (a && b) ≡ false
-after_fails = and_fails
 
 pub any_err : {T E P : Type 0} → (r : Result T E) → P → OnErr r P
 any_err (Ok x) p = tt
@@ -153,13 +149,6 @@ started old mid new spot test event ticket same about first ticket-is step-is =
 pub not_over : (t : Tables) (survey : Survey) (over : Bool) → Surveys t survey → (IsTrue over ↔ ((t.budget < survey.spent) ⊎ IsFalse survey.open)) → over ≡ false → ¬ IsOver (seen t)
 not_over t survey over surveys told not (inl more) = absurd (let yes' = told.1 (inl (omega (arith, more, surveys.spent_is))) in cc)
 not_over t survey over surveys told not (inr closed) = absurd (let yes' = told.1 (inr (surveys.open_is.1 closed)) in cc)
-
-pub within_budget : (t : Tables) (survey : Survey) (over : Bool) → Surveys t survey → (IsTrue over ↔ ((t.budget < survey.spent) ⊎ IsFalse survey.open)) → over ≡ false → spent (seen t) ≤ t.budget
-within_budget t survey over surveys told not =
-    elim (cases_lt t.budget survey.spent) [
-      | inl more ↦ absurd (let yes' = told.1 (inl more) in cc)
-      | inr few ↦ omega (arith, few, surveys.spent_is)
-    ]
 
 pub none_queued : (t : Tables) → All (λ (row : BookRow). is_queued row.state ≡ false) t.rows.items → NoneQueued (seen t)
 none_queued t none = all_seen t.cuts.items (λ row. is_queued row.state) (λ row. is_queued row.state) (λ r. refl) t.rows.items none
@@ -239,3 +228,29 @@ wanted_is t ticket spot above is above-is =
 -- a span that ends at a list
 abbrev pub span_to : ℕ → List ℕ → List ℕ → Span
 span_to number from list = record { number = number; from = from; to = At list }
+
+-- what a pass over the rows tells of the first Queued row
+pub first_queued : (t : Tables) (survey : Survey) (spot : Spot) → Surveys t survey → survey.queued ≡ Some spot → IsFirstSpot (λ row. is_queued row.state) t.rows.items spot
+first_queued t survey spot surveys is =
+    subst (λ (o : Option Spot). MatchOption o (All (λ (row : BookRow). is_queued row.state ≡ false) t.rows.items) (IsFirstSpot (λ row. is_queued row.state) t.rows.items)) is surveys.queued_is
+
+pub no_queued : (t : Tables) (survey : Survey) → Surveys t survey → survey.queued ≡ None → All (λ row. is_queued row.state ≡ false) t.rows.items
+no_queued t survey surveys is =
+    subst (λ (o : Option Spot). MatchOption o (All (λ (row : BookRow). is_queued row.state ≡ false) t.rows.items) (IsFirstSpot (λ row. is_queued row.state) t.rows.items)) is surveys.queued_is
+
+-- tables in which room was made for the start of a spot's row
+pub record IsReady (mid : Tables) (test : BookRow → Bool) (spot : Spot) : Type 0 where
+  pub sound : IsSound mid
+  pub first : IsFirstSpot test mid.rows.items spot
+  pub places : HasPlaces (length mid.cuts.items) spot.row
+  pub interval : PrecedesBound (lower mid.cuts.items spot.row.from) (upper mid.cuts.items spot.row.to)
+
+pub ready : (old mid : Tables) (test : BookRow → Bool) (spot : Spot) → IsSound old → IsFirstSpot test old.rows.items spot → AreKept mid → mid.rows.items ≡ old.rows.items → seen mid ≡ seen old → IsReady mid test spot
+ready old mid test spot sound first kept rows same =
+    let sound' = sound_same old mid sound kept same in
+    let first' : IsFirstSpot test mid.rows.items spot = subst (λ (l : List BookRow). IsFirstSpot test l spot) (sym rows) first in
+    record { sound = sound'; first = first'; places = spot_places mid spot kept first'.there; interval = spot_interval mid spot (always_of mid sound') first'.there }
+
+-- the row of a spot, where it is Queued
+pub queued_at : (t : Tables) (spot : Spot) (number : ℕ) → IsFirstSpot (λ row. row.number == number) t.rows.items spot → is_queued spot.row.state ≡ true → IsQueuedAt (seen t) number
+queued_at t spot number first queued = (row_seen t.cuts.items spot.row, spot_within t spot first.there, same_is spot.row.number number first.passes, queued)

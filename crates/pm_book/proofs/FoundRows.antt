@@ -24,7 +24,7 @@ use Rattle.pm_book.specs.Always.{AlwaysHolds}
 use Rattle.pm_book.specs.Seen.{lower, upper, row_seen, seen, best_seen, HasPlaces, AreKept, HasPut, dropped}
 use Rattle.pm_book.proofs.OrderTests.{within_is, is_not_before, before_is}
 use Rattle.pm_book.proofs.Tiles.{tile_round, ends_before, begins_after, none_empty}
-use Rattle.pm_book.proofs.Places.{split_at, seen_split, rows_more, same_state}
+use Rattle.pm_book.proofs.Places.{split_at, seen_split, rows_more, same_state, runs}
 
 dropped_seen : (cuts : List (List ℕ)) (path : List ℕ) (row : BookRow) → is_before path (lower cuts row.from) ≡ true → row_seen cuts (dropped row) ≡ drop_above (Some path) (row_seen cuts row)
 dropped_seen cuts path row above =
@@ -141,9 +141,6 @@ dropped_runs number from to Queued = refl
 dropped_runs number from to (Running worker) = refl
 dropped_runs number from to (Done work found) = refl
 dropped_runs number from to Dropped = refl
-
-abbrev runs : BookRow → Bool
-runs row = is_running row.state
 
 count_dropped : (rows : List BookRow) → count_by runs (map dropped rows) ≡ count_by runs rows
 count_dropped [] = refl

@@ -161,7 +161,7 @@ count_none (x ∷ xs) none =
     ∙ ap (λ (b : Bool). cond b 1 0 + count_by (λ (r : BookRow). is_running r.state) xs) (All-head (λ (r : BookRow). is_running r.state ≡ false) x xs none)
     ∙ (let rest = count_none xs (All-tail (λ (r : BookRow). is_running r.state ≡ false) x xs none) in omega (arith, rest))
 
-abbrev runs : BookRow → Bool
+abbrev pub runs : BookRow → Bool
 runs row = is_running row.state
 
 pub running_least : (t : Tables) (spot : Spot) → AreKept t → slice_get t.rows.items spot.place ≡ Some spot.row → running_of spot.row.state ≤ t.running

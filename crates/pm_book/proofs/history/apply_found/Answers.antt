@@ -6,7 +6,7 @@ use Rattle.pm_book.specs.Rows.{is_running, is_within}
 use Rattle.pm_book.specs.Steps.{with_state, ended, is_next_cut}
 use Rattle.pm_book.specs.Seen.{seen, row_seen}
 use Rattle.pm_book.proofs.Moves.{spot_places}
-use Rattle.pm_book.proofs.BookLemmas.{unfound, refused, where_fails, after_fails}
+use Rattle.pm_book.proofs.BookLemmas.{unfound, refused, where_fails, and_fails}
 use Rattle.pm_book.proofs.history.apply_found.Goals as goal
 
 pub returns-in_default-clause-applied : goal.returns-in_default-clause-applied
@@ -26,4 +26,4 @@ returns-then-not-may_find-clause-applied c =
     sym (c.may_find.ensures ∙ ap (λ (l : List ℕ). is_running row.state && is_within row.from row.to l) c.as_slice.ensures) ∙ c.if-not-may_find.true in
     refused t spot (λ r. r.number == c.args.row) (Found c.args.row (length t.cuts.items) c.args.work) (Some path) (λ r. refl) c.in-Some.ensures
     (where_fails (is_next_cut (seen t) (length t.cuts.items) && may) (ended (seen t).best row (with_state (Done c.args.work true) row ∷ []))
-    (after_fails (is_next_cut (seen t) (length t.cuts.items)) may not_may))
+    (and_fails (is_next_cut (seen t) (length t.cuts.items)) may not_may))

@@ -4,7 +4,7 @@ use Rattle.pm_book.specs.declared.event.Event.TheVariants.{Returned}
 use Rattle.pm_book.specs.Steps.{ended, returned, is_next_cut, may_return}
 use Rattle.pm_book.specs.Seen.{seen, row_seen}
 use Rattle.pm_book.proofs.Moves.{spot_places}
-use Rattle.pm_book.proofs.BookLemmas.{unfound, refused, where_fails, after_fails}
+use Rattle.pm_book.proofs.BookLemmas.{unfound, refused, where_fails, and_fails}
 use Rattle.pm_book.proofs.history.apply_returned.Goals as goal
 
 pub returns-in_default-clause-applied : goal.returns-in_default-clause-applied
@@ -23,4 +23,4 @@ returns-then-not-may_return-clause-applied c =
     sym (c.may_return.ensures ∙ ap (λ (l : List ℕ). may_return l c.args.work row) c.as_slice.ensures) ∙ c.if-not-may_return.true in
     refused t spot (λ r. r.number == c.args.row) (Returned c.args.row (length t.cuts.items) c.args.work) (Some cut) (λ r. refl) c.in-Some.ensures
     (where_fails (is_next_cut (seen t) (length t.cuts.items) && may_return cut c.args.work row) (ended (seen t).best row (returned cut (length (seen t).rows) c.args.work row))
-    (after_fails (is_next_cut (seen t) (length t.cuts.items)) (may_return cut c.args.work row) not_may))
+    (and_fails (is_next_cut (seen t) (length t.cuts.items)) (may_return cut c.args.work row) not_may))

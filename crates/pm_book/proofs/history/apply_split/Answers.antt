@@ -5,7 +5,7 @@ use Rattle.pm_book.specs.Rows.{is_running, is_before, is_below}
 use Rattle.pm_book.specs.Steps.{part_below, part_from, drop_above, is_next_cut}
 use Rattle.pm_book.specs.Seen.{seen, row_seen}
 use Rattle.pm_book.proofs.Moves.{spot_places}
-use Rattle.pm_book.proofs.BookLemmas.{unfound, refused, where_fails, after_fails}
+use Rattle.pm_book.proofs.BookLemmas.{unfound, refused, where_fails, and_fails}
 use Rattle.pm_book.proofs.history.apply_split.Goals as goal
 
 pub returns-in_default-clause-applied : goal.returns-in_default-clause-applied
@@ -25,4 +25,4 @@ returns-then-not-may_split-clause-applied c =
     sym (c.may_split.ensures ∙ ap (λ (l : List ℕ). is_running row.state && (is_before row.from l && is_below l row.to)) c.as_slice.ensures) ∙ c.if-not-may_split.true in
     refused t spot (λ r. r.number == c.args.row) (Split c.args.row (length t.cuts.items)) (Some cut) (λ r. refl) c.in-Some.ensures
     (where_fails (is_next_cut (seen t) (length t.cuts.items) && may) (part_below cut row.state row ∷ drop_above (seen t).best (part_from cut (length (seen t).rows) row) ∷ [])
-    (after_fails (is_next_cut (seen t) (length t.cuts.items)) may not_may))
+    (and_fails (is_next_cut (seen t) (length t.cuts.items)) may not_may))

@@ -1,31 +1,25 @@
-use Rattle.std.proofs.Common.{◌≡◌, ◌∙◌, ℕ, List, ap, subst, sym, refl, false}
-use Rattle.std.specs.Prelude.{Some, None, Option, All, MatchOption, slice_get}
-use Rattle.pm_book.specs.declared.row.BookRow.{BookRow}
-use Rattle.pm_book.specs.declared.tables.Spot.{Spot}
+use Rattle.std.proofs.Common.{◌≡◌, ◌∙◌, ℕ, ap, subst, refl}
+use Rattle.std.specs.Prelude.{None}
 use Rattle.pm_book.specs.declared.event.Event.TheVariants.{Took}
 use Rattle.pm_book.specs.Rows.{State, Span, is_queued}
 use Rattle.pm_book.specs.Steps.{step}
-use Rattle.pm_book.specs.Seen.{seen, IsFirstSpot}
+use Rattle.pm_book.specs.Seen.{seen}
 use Rattle.pm_book.specs.Answers.{IsOver, NoneQueued}
-use Rattle.pm_book.proofs.Moves.{spot_places}
-use Rattle.pm_book.proofs.BookLemmas.{always_of, sound_step, sound_same, spot_interval, any_err, started, not_over, none_queued, one_queued}
+use Rattle.pm_book.proofs.BookLemmas.{sound_step, any_err, started, not_over, first_queued, no_queued, none_queued, one_queued, ready}
 use Rattle.pm_book.proofs.book.Book.take.Goals as goal
 
 pub returns-in_default-clause-ok : goal.returns-in_default-clause-ok
 returns-in_default-clause-ok c =
-    let old = c.self.inside.tables in
-    let none : All (λ (row : BookRow). is_queued row.state ≡ false) old.rows.items =
-    subst (λ (o : Option Spot). MatchOption o (All (λ (row : BookRow). is_queued row.state ≡ false) old.rows.items) (IsFirstSpot (λ row. is_queued row.state) old.rows.items)) c.in_default.is c.survey-survey.ensures.queued_is in (
+    let old = c.self.inside.tables in (
       subst (λ (b : State). ¬ IsOver b) c.self.view_is (not_over old c.survey-survey.result c.is_over.result c.survey-survey.ensures c.is_over.ensures c.if-is_over.false),
-      subst NoneQueued c.self.view_is (none_queued old none),
+      subst NoneQueued c.self.view_is (none_queued old (no_queued old c.survey-survey.result c.survey-survey.ensures c.in_default.is)),
       refl,
     )
 
 pub returns-in_err-make_room-clause-err : goal.returns-in_err-make_room-clause-err
 returns-in_err-make_room-clause-err c =
     let old = c.self.inside.tables in
-    let first : IsFirstSpot (λ row. is_queued row.state) old.rows.items c.in-Some.spot =
-    subst (λ (o : Option Spot). MatchOption o (All (λ (row : BookRow). is_queued row.state ≡ false) old.rows.items) (IsFirstSpot (λ row. is_queued row.state) old.rows.items)) c.in-Some.is c.survey-survey.ensures.queued_is in
+    let first = first_queued old c.survey-survey.result c.in-Some.spot c.survey-survey.ensures c.in-Some.is in
     any_err c.from_residual.result (
       subst (λ (b : State). ¬ IsOver b) c.self.view_is (not_over old c.survey-survey.result c.is_over.result c.survey-survey.ensures c.is_over.ensures c.if-is_over.false),
       subst (λ (b : State). ¬ NoneQueued b) c.self.view_is (one_queued old c.in-Some.spot first.there first.passes),
@@ -35,25 +29,19 @@ returns-in_err-make_room-clause-err c =
 pub ticket_of-requires-clause-places : goal.ticket_of-requires-clause-places
 ticket_of-requires-clause-places c =
     let old = c.self.inside.tables in
-    let mid = c.make_room.new.self in
-    let first : IsFirstSpot (λ row. is_queued row.state) old.rows.items c.in-Some.spot =
-    subst (λ (o : Option Spot). MatchOption o (All (λ (row : BookRow). is_queued row.state ≡ false) old.rows.items) (IsFirstSpot (λ row. is_queued row.state) old.rows.items)) c.in-Some.is c.survey-survey.ensures.queued_is in
-    spot_places mid c.in-Some.spot c.in_ok-make_room.ensures.kept (subst (λ (l : List BookRow). slice_get l c.in-Some.spot.place ≡ Some c.in-Some.spot.row) (sym c.in_ok-make_room.ensures.rows) first.there)
+    let room = c.in_ok-make_room.ensures in
+    (ready old c.make_room.new.self (λ row. is_queued row.state) c.in-Some.spot c.self.invariant (first_queued old c.survey-survey.result c.in-Some.spot c.survey-survey.ensures c.in-Some.is) room.kept room.rows room.seen).places
 
 pub ticket_of-requires-clause-interval : goal.ticket_of-requires-clause-interval
 ticket_of-requires-clause-interval c =
     let old = c.self.inside.tables in
-    let mid = c.make_room.new.self in
-    let first : IsFirstSpot (λ row. is_queued row.state) old.rows.items c.in-Some.spot =
-    subst (λ (o : Option Spot). MatchOption o (All (λ (row : BookRow). is_queued row.state ≡ false) old.rows.items) (IsFirstSpot (λ row. is_queued row.state) old.rows.items)) c.in-Some.is c.survey-survey.ensures.queued_is in
-    let sound = sound_same old mid c.self.invariant c.in_ok-make_room.ensures.kept c.in_ok-make_room.ensures.seen in
-    spot_interval mid c.in-Some.spot (always_of mid sound) (subst (λ (l : List BookRow). slice_get l c.in-Some.spot.place ≡ Some c.in-Some.spot.row) (sym c.in_ok-make_room.ensures.rows) first.there)
+    let room = c.in_ok-make_room.ensures in
+    (ready old c.make_room.new.self (λ row. is_queued row.state) c.in-Some.spot c.self.invariant (first_queued old c.survey-survey.result c.in-Some.spot c.survey-survey.ensures c.in-Some.is) room.kept room.rows room.seen).interval
 
 pub returns-in_err-ticket-clause-err : goal.returns-in_err-ticket-clause-err
 returns-in_err-ticket-clause-err c =
     let old = c.self.inside.tables in
-    let first : IsFirstSpot (λ row. is_queued row.state) old.rows.items c.in-Some.spot =
-    subst (λ (o : Option Spot). MatchOption o (All (λ (row : BookRow). is_queued row.state ≡ false) old.rows.items) (IsFirstSpot (λ row. is_queued row.state) old.rows.items)) c.in-Some.is c.survey-survey.ensures.queued_is in
+    let first = first_queued old c.survey-survey.result c.in-Some.spot c.survey-survey.ensures c.in-Some.is in
     any_err c.from_residual-in_err-ticket.result (
       subst (λ (b : State). ¬ IsOver b) c.self.view_is (not_over old c.survey-survey.result c.is_over.result c.survey-survey.ensures c.is_over.ensures c.if-is_over.false),
       subst (λ (b : State). ¬ NoneQueued b) c.self.view_is (one_queued old c.in-Some.spot first.there first.passes),
@@ -62,20 +50,21 @@ returns-in_err-ticket-clause-err c =
 
 pub invariant_of-self-2 : goal.invariant_of-self-2
 invariant_of-self-2 c =
+    let old = c.self.inside.tables in
     let mid = c.make_room.new.self in
-    let sound = sound_same c.self.inside.tables mid c.self.invariant c.in_ok-make_room.ensures.kept c.in_ok-make_room.ensures.seen in
-    sound_step mid c.take.new.self (Took c.args.worker c.in-Some.spot.row.number) None sound c.take.ensures.kept c.take.ensures.step
+    let room = c.in_ok-make_room.ensures in
+    let made = ready old mid (λ row. is_queued row.state) c.in-Some.spot c.self.invariant (first_queued old c.survey-survey.result c.in-Some.spot c.survey-survey.ensures c.in-Some.is) room.kept room.rows room.seen in
+    sound_step mid c.take.new.self (Took c.args.worker c.in-Some.spot.row.number) None made.sound c.take.ensures.kept c.take.ensures.step
 
 pub returns-clause-ok : goal.returns-clause-ok
 returns-clause-ok c =
     let old = c.self.inside.tables in
     let mid = c.make_room.new.self in
     let spot = c.in-Some.spot in
-    let first : IsFirstSpot (λ row. is_queued row.state) old.rows.items spot =
-    subst (λ (o : Option Spot). MatchOption o (All (λ (row : BookRow). is_queued row.state ≡ false) old.rows.items) (IsFirstSpot (λ row. is_queued row.state) old.rows.items)) c.in-Some.is c.survey-survey.ensures.queued_is in
+    let room = c.in_ok-make_room.ensures in
+    let made = ready old mid (λ row. is_queued row.state) spot c.self.invariant (first_queued old c.survey-survey.result spot c.survey-survey.ensures c.in-Some.is) room.kept room.rows room.seen in
     let number : c.in_ok-ticket.ticket.number ≡ spot.row.number = ap (λ (s : Span). s.number) c.in_ok-ticket.ensures in (
       subst (λ (b : State). ¬ IsOver b) c.self.view_is (not_over old c.survey-survey.result c.is_over.result c.survey-survey.ensures c.is_over.ensures c.if-is_over.false),
-      started c.args.self.now mid c.take.new.self spot (λ row. is_queued row.state) (Took c.args.worker c.in_ok-ticket.ticket.number) c.in_ok-ticket.ticket (c.in_ok-make_room.ensures.seen ∙ c.self.view_is) (λ r. refl)
-          (subst (λ (l : List BookRow). IsFirstSpot (λ row. is_queued row.state) l spot) (sym c.in_ok-make_room.ensures.rows) first) c.in_ok-ticket.ensures
+      started c.args.self.now mid c.take.new.self spot (λ row. is_queued row.state) (Took c.args.worker c.in_ok-ticket.ticket.number) c.in_ok-ticket.ticket (room.seen ∙ c.self.view_is) (λ r. refl) made.first c.in_ok-ticket.ensures
           (ap (λ (n : ℕ). step (seen mid) (Took c.args.worker n) None) number ∙ c.take.ensures.step),
     )
