@@ -1,0 +1,15 @@
+pub mod OrderTests
+pub mod Tiles
+pub mod Changes
+pub mod Kept
+pub mod Always
+pub mod Counts
+pub mod Exhaustion
+pub mod Places
+pub mod PutRows
+pub mod Moves
+pub mod Surveyed
+pub mod FoundRows
+pub mod Replays
+pub mod BookLemmas
+pub mod BestLemmas

@@ -1,0 +1,26 @@
+use Rattle.std.proofs.Common.{◌≡◌, ◌∙◌, ℕ, ap, subst, sym, refl, false, [], ◌∷◌}
+use Rattle.std.specs.Prelude.{None, Option, All, MatchOption, ◌==◌, ◌&&◌, nat_le}
+use Rattle.pm_book.specs.declared.row.RowState.TheVariants.{Running}
+use Rattle.pm_book.specs.declared.row.BookRow.{BookRow}
+use Rattle.pm_book.specs.declared.tables.Spot.{Spot}
+use Rattle.pm_book.specs.declared.event.Event.TheVariants.{Took}
+use Rattle.pm_book.specs.Rows.{is_queued, spent}
+use Rattle.pm_book.specs.Steps.{with_state}
+use Rattle.pm_book.specs.Seen.{seen, row_seen, IsFirstSpot}
+use Rattle.pm_book.proofs.BookLemmas.{unfound, refused, where_fails}
+use Rattle.pm_book.proofs.history.apply_took.Goals as goal
+
+pub returns-in_default-clause-applied : goal.returns-in_default-clause-applied
+returns-in_default-clause-applied c =
+    let t = c.args.tables.now in
+    unfound t (λ row. is_queued row.state) (Took c.args.worker c.args.row) None (λ r. refl)
+    (subst (λ (o : Option Spot). MatchOption o (All (λ (row : BookRow). is_queued row.state ≡ false) t.rows.items) (IsFirstSpot (λ row. is_queued row.state) t.rows.items)) c.in_default.is c.survey-survey.ensures.queued_is)
+
+pub returns-then-not-may_take-clause-applied : goal.returns-then-not-may_take-clause-applied
+returns-then-not-may_take-clause-applied c =
+    let t = c.args.tables.now in
+    let spot = c.in-Some.spot in
+    refused t spot (λ row. is_queued row.state) (Took c.args.worker c.args.row) None (λ r. refl)
+    (subst (λ (o : Option Spot). MatchOption o (All (λ (row : BookRow). is_queued row.state ≡ false) t.rows.items) (IsFirstSpot (λ row. is_queued row.state) t.rows.items)) c.in-Some.is c.survey-survey.ensures.queued_is)
+    (where_fails (spot.row.number == c.args.row && nat_le (spent (seen t)) t.budget) (with_state (Running c.args.worker) (row_seen t.cuts.items spot.row) ∷ [])
+    (sym (c.may_take.ensures ∙ ap (λ (n : ℕ). spot.row.number == c.args.row && nat_le n t.budget) c.survey-survey.ensures.spent_is) ∙ c.if-not-may_take.true))
