@@ -99,8 +99,8 @@ EndsFound (row ∷ other ∷ rows) = EndsFound (other ∷ rows)
 abbrev pub IsSettled : ℕ → State → Type 0
 IsSettled most book = ((most < front_work book) ⊎ EndsFound (front_of book.rows)) ⊎ (front_of book.rows ≡ book.rows)
 
--- What a settled book says of all entries. Where the work of its front is greater than the number, so
--- many entries have no marked one before them. Else, where the front's last row was found, best is the
+-- What a settled book says of all entries. Where the work of its front is greater than the number, more
+-- than so many entries have no marked one before them. Else, where the front's last row was found, best is the
 -- least marked entry, and the work is the number of entries up to it. Else no entry is marked, and the
 -- work is the number of all.
 pub record TellsOf (entries : Entries) (most : ℕ) (book : State) : Type 0 where
