@@ -1,6 +1,7 @@
 pub mod ListLemmas
 pub mod Tableaux
 pub mod NodeLemmas
+pub mod EntryLemmas
 pub mod TableLemmas
 pub mod IndexLemmas
 pub mod StartLemmas

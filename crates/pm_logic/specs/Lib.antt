@@ -2,6 +2,8 @@ pub mod Lists
 pub mod Term
 pub mod TermCode
 pub mod Table
+pub mod Interned
+pub mod Row
 pub mod Problem
 pub mod LiteralCode
 pub mod Index

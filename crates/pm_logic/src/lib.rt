@@ -18,4 +18,4 @@ pub use laws::{
 pub use problem::{Class, Clause, Literal, Name, Problem, Start};
 pub use symbols::{Kind, Symbols};
 pub use tableau::{Node, NodeKind, Tableau, tableau_depth};
-pub use terms::{TermId, TermTable};
+pub use terms::{Row, TermId, TermTable};
