@@ -3,6 +3,7 @@ pub mod Tableaux
 pub mod NodeLemmas
 pub mod EntryLemmas
 pub mod TableLemmas
+pub mod WordLemmas
 pub mod IndexLemmas
 pub mod StartLemmas
 pub mod Prefixes

@@ -4,6 +4,7 @@ pub mod TermCode
 pub mod Table
 pub mod Interned
 pub mod Row
+pub mod Word
 pub mod Problem
 pub mod LiteralCode
 pub mod Index

@@ -6,6 +6,7 @@ mod problem;
 mod symbols;
 mod tableau;
 mod terms;
+mod words;
 
 pub use laws::{
     choices_are_below_widths, clause_instances_compose, closed_branch_example,
@@ -19,3 +20,4 @@ pub use problem::{Class, Clause, Literal, Name, Problem, Start};
 pub use symbols::{Kind, Symbols};
 pub use tableau::{Node, NodeKind, Tableau, tableau_depth};
 pub use terms::{Row, TermId, TermTable};
+pub use words::write_word;
