@@ -1,7 +1,9 @@
 pub mod ListLemmas
 pub mod Tableaux
 pub mod NodeLemmas
+pub mod EntryLemmas
 pub mod TableLemmas
+pub mod WordLemmas
 pub mod IndexLemmas
 pub mod StartLemmas
 pub mod Prefixes

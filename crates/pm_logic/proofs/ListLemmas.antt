@@ -77,7 +77,7 @@ pub Contains-stands : {A : Type 0} (xs : List A) (x : A) → Contains xs x → (
 Contains-stands xs x h = (h.0, slice_get-get_or xs h.0 x h.1 ∙ ap Some h.2)
 
 -- what stands in a list with one more item
-slice_get-push : {A : Type 0} (xs : List A) (x : A) (n : ℕ) → n < length xs → slice_get (xs ++ x ∷ []) n ≡ slice_get xs n
+pub slice_get-push : {A : Type 0} (xs : List A) (x : A) (n : ℕ) → n < length xs → slice_get (xs ++ x ∷ []) n ≡ slice_get xs n
 slice_get-push [] x n lt = absurd (omega arith)
 slice_get-push (y ∷ ys) x zero lt = refl
 slice_get-push (y ∷ ys) x (suc n) lt = slice_get-push ys x n (omega arith)
@@ -86,11 +86,23 @@ pub slice_get-last : {A : Type 0} (xs : List A) (x : A) → slice_get (xs ++ x �
 slice_get-last [] x = refl
 slice_get-last (y ∷ ys) x = slice_get-last ys x
 
-below_or_last : {A : Type 0} (xs : List A) (x : A) (n : ℕ) → n < length (xs ++ x ∷ []) → (n < length xs) ⊎ (n ≡ length xs)
+pub below_or_last : {A : Type 0} (xs : List A) (x : A) (n : ℕ) → n < length (xs ++ x ∷ []) → (n < length xs) ⊎ (n ≡ length xs)
 below_or_last xs x n lt =
     elim (cases_lt n (length xs)) [
       | inl below ↦ inl below
       | inr beyond ↦ let last : n ≡ length xs = omega (arith, length_push xs x) in inr last
+    ]
+
+-- what is in a list with one more item was there, or is that item
+pub Contains-push : {A : Type 0} (xs : List A) (x y : A) → Contains (xs ++ x ∷ []) y → Contains xs y ⊎ (x ≡ y)
+Contains-push xs x y h =
+    let place = Contains-stands (xs ++ x ∷ []) y h in
+    elim (below_or_last xs x place.0 (slice_get_within (xs ++ x ∷ []) place.0 y place.1)) [
+      | inl below ↦ inl (Contains-from xs place.0 y (sym (slice_get-push xs x place.0 below) ∙ place.1))
+      | inr last ↦
+          let stands : Some x ≡ Some y = sym (slice_get-last xs x) ∙ ap (slice_get (xs ++ x ∷ [])) (sym last) ∙ place.1 in
+          let same : x ≡ y = cc in
+          inr same
     ]
 
 same_place : {A : Type 0} (xs : List A) (x : A) → AreDistinct xs → ¬ Contains xs x → (i j : ℕ)

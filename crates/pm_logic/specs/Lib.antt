@@ -2,6 +2,9 @@ pub mod Lists
 pub mod Term
 pub mod TermCode
 pub mod Table
+pub mod Interned
+pub mod Row
+pub mod Word
 pub mod Problem
 pub mod LiteralCode
 pub mod Index

@@ -1,5 +1,5 @@
 -- The trees of a table of terms.
-use Rattle.std.specs.Prelude.{ℕ, ◌+◌, ◌<◌, List, [], ◌∷◌, ◌++◌, All, map}
+use Rattle.std.specs.Prelude.{◌≡◌, ℕ, ◌+◌, ◌<◌, ◌⊎◌, List, [], ◌∷◌, ◌++◌, All, Contains, Some, map, slice_get}
 use Rattle.pm_logic.specs.declared.terms.Entry.{Entry}
 use Rattle.pm_logic.specs.declared.terms.Entry.TheVariants.{Var, App}
 use Rattle.pm_logic.specs.Lists.{AreDistinct}
@@ -28,7 +28,20 @@ abbrev pub PointDown : ℕ → List Entry → Type 0
 PointDown row [] = Unit {0}
 PointDown row (e ∷ es) = PointsBelow row e × PointDown (row + 1) es
 
--- entries name rows before their own, and no two have the same tree
-pub record IsTable (es : List Entry) : Type 0 where
+-- how many of the terms are variables
+abbrev pub variable_count : List Term → ℕ
+variable_count [] = 0
+variable_count (var n ∷ ts) = 1 + variable_count ts
+variable_count (app symbol args ∷ ts) = variable_count ts
+
+-- entries name rows before their own, no two have the same tree, and the variables are the first so many
+pub record IsTable (es : List Entry) (vars : ℕ) : Type 0 where
   pub below : PointDown 0 es
   pub distinct : AreDistinct (trees es)
+  pub counted : variable_count (trees es) ≡ vars
+  pub numbered : (n : ℕ) → Contains (trees es) (var n) → n < vars
+
+-- a term was given a row: its own where it had one, else the next
+pub record Adds (old new : List Term) (term : Term) (row : ℕ) : Type 0 where
+  pub stands : slice_get new row ≡ Some term
+  pub grows : ((new ≡ old) × Contains old term) ⊎ ((new ≡ old ++ term ∷ []) × (¬ Contains old term))

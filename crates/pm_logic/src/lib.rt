@@ -6,6 +6,7 @@ mod problem;
 mod symbols;
 mod tableau;
 mod terms;
+mod words;
 
 pub use laws::{
     choices_are_below_widths, clause_instances_compose, closed_branch_example,
@@ -18,4 +19,5 @@ pub use laws::{
 pub use problem::{Class, Clause, Literal, Name, Problem, Start};
 pub use symbols::{Kind, Symbols};
 pub use tableau::{Node, NodeKind, Tableau, tableau_depth};
-pub use terms::{TermId, TermTable};
+pub use terms::{Row, TermId, TermTable};
+pub use words::write_word;
