@@ -1,13 +1,13 @@
 -- What is left of pairs when one of them is taken.
-use Rattle.std.proofs.Common.{◌≡◌, ℕ, suc, ◌+◌, ◌<◌, ◌≤◌, List, [], ◌∷◌, ◌++◌, length, map, refl, sym, ◌∙◌, ap, ap₂, arith}
+use Rattle.std.proofs.Common.{◌≡◌, ℕ, ◌+◌, ◌<◌, List, [], ◌∷◌, ◌++◌, length, map, sym, ◌∙◌, ap, arith}
 use Rattle.std.specs.Prelude.{◌↔◌, All, Contains, ⊤}
 use Rattle.std.specs.List.{zip}
 use Rattle.std.proofs.lemmas.List.Elements.{All-append, All-push, All-contains}
-use Rattle.pm_logic.specs.Term.{Term, var, app, Terms, as_terms}
+use Rattle.pm_logic.specs.Term.{Term, app, as_terms}
 use Rattle.pm_store.specs.Equations.{Equations}
 use Rattle.pm_store.specs.Solutions.{Solves}
-use Rattle.pm_unify.specs.Support.{size, size_among, IsSupported}
-use Rattle.pm_unify.specs.Pairs.{IsEqual, IsWithin, AreWithin, AreEqual, AreSupported, pair_size}
+use Rattle.pm_unify.specs.Support.{size, size_among}
+use Rattle.pm_unify.specs.Pairs.{IsEqual, IsWithin, AreWithin, AreSupported, pair_size}
 use Rattle.pm_unify.specs.Steps.{Leaves}
 use Rattle.pm_unify.proofs.SupportLemmas.{All-left, All-last, supported_drop, supported_again, supported_enter}
 use Rattle.pm_unify.proofs.PairLemmas.{zip_within, zip_smaller, zip_equal, equal_zip}

@@ -1,8 +1,8 @@
 -- The search for a variable in the tree of a cell.
-use Rattle.std.proofs.Common.{◌≡◌, ℕ, suc, ◌+◌, ◌<◌, ◌≤◌, inl, inr, List, [], ◌∷◌, ◌++◌, length, map, refl, sym, ◌∙◌, ap, subst, arith, Bool, true, false, eqb, eq-eqb, true≢false}
+use Rattle.std.proofs.Common.{◌≡◌, ℕ, suc, ◌<◌, inl, inr, List, [], ◌∷◌, ◌++◌, length, map, refl, sym, ◌∙◌, ap, subst, arith, Bool, true, false, eqb, eq-eqb, true≢false}
 use Rattle.std.specs.Prelude.{All, Contains}
 use Rattle.std.proofs.lemmas.List.Elements.{All-nil, All-cons, All-head, All-tail, All-append, All-push, All-contains}
-use Rattle.pm_logic.specs.Term.{Term, var, app, as_terms}
+use Rattle.pm_logic.specs.Term.{Term, app, as_terms}
 use Rattle.pm_store.specs.Equations.{Equations, IsFree}
 use Rattle.pm_store.specs.Sound.{IsSound}
 use Rattle.pm_store.specs.Trees.{tree, Occurs, OccursAmong}

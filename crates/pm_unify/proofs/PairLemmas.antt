@@ -1,9 +1,9 @@
 -- Arguments at the same places, and their trees.
-use Rattle.std.proofs.Common.{◌≡◌, ℕ, suc, ◌+◌, ◌<◌, ◌≤◌, List, [], ◌∷◌, length, map, refl, sym, ◌∙◌, ap, ap₂, arith}
+use Rattle.std.proofs.Common.{◌≡◌, ℕ, suc, ◌+◌, ◌<◌, ◌≤◌, List, [], ◌∷◌, length, map, refl, ap, ap₂, arith}
 use Rattle.std.specs.Prelude.{All}
 use Rattle.std.specs.List.{zip}
-use Rattle.std.proofs.lemmas.List.Elements.{All-nil, All-cons, All-head, All-tail, All-weaker}
-use Rattle.pm_logic.specs.Term.{Term, var, app, Terms, no_terms, more_terms, as_terms}
+use Rattle.std.proofs.lemmas.List.Elements.{All-nil, All-cons, All-head, All-tail}
+use Rattle.pm_logic.specs.Term.{Term, var, app, more_terms, as_terms}
 use Rattle.pm_store.specs.Equations.{Equations}
 use Rattle.pm_unify.specs.Support.{size, size_among}
 use Rattle.pm_unify.specs.Pairs.{IsEqual, IsWithin, AreWithin, pair_size}

@@ -1,6 +1,6 @@
 -- What unification keeps while it binds variables.
-use Rattle.std.proofs.Common.{◌≡◌, ℕ, suc, ◌<◌, List, [], ◌∷◌, ◌++◌, length, refl, sym, ◌∙◌, ap, subst}
-use Rattle.std.specs.Prelude.{◌↔◌, All, ⊤}
+use Rattle.std.proofs.Common.{◌≡◌, ℕ, suc, ◌<◌, List, [], ◌∷◌, length, refl, sym, subst}
+use Rattle.std.specs.Prelude.{◌↔◌, ⊤}
 use Rattle.std.proofs.lemmas.List.Elements.{All-nil, All-cons, All-head}
 use Rattle.pm_logic.specs.Term.{Term}
 use Rattle.pm_store.specs.Equations.{Equations, with_binding}
@@ -11,7 +11,6 @@ use Rattle.pm_store.specs.Marks.{IsLater}
 use Rattle.pm_store.proofs.SolutionLemmas.{Solves-with_binding}
 use Rattle.pm_store.proofs.MarkLemmas.{growth_is_later, later_is_transitive}
 use Rattle.pm_store.proofs.CycleLemmas.{cycles_have_no_solution}
-use Rattle.pm_unify.specs.Support.{IsSupported}
 use Rattle.pm_unify.specs.Pairs.{IsEqual, IsWithin, AreWithin, AreEqual, AreSupported, pair_size}
 use Rattle.pm_unify.specs.declared.pairs.Step.{Step}
 use Rattle.pm_unify.specs.declared.pairs.Step.TheVariants.{Done, Clash, Bind}

@@ -1,14 +1,14 @@
 -- One turn of a loop that takes a pair, or a cell, from those that are pending.
-use Rattle.std.proofs.Common.{◌≡◌, ◌≢◌, ℕ, suc, ◌+◌, ◌<◌, ◌≤◌, Bool, true, false, not, eqb, List, [], ◌∷◌, ◌++◌, length, map, refl, sym, ◌∙◌, ap, subst, arith, eqb-true, eq-eqb, true≢false}
-use Rattle.std.specs.Prelude.{◌↔◌, All, Contains, ⊤}
+use Rattle.std.proofs.Common.{◌≡◌, ◌≢◌, ℕ, ◌<◌, Bool, true, false, not, eqb, List, [], ◌∷◌, ◌++◌, length, map, refl, sym, ◌∙◌, ap, subst, arith, eqb-true, eq-eqb, true≢false}
+use Rattle.std.specs.Prelude.{◌↔◌, ⊤}
 use Rattle.std.specs.List.{zip}
 use Rattle.pm_logic.specs.Term.{Term, var, app, Terms, as_terms}
 use Rattle.pm_store.specs.Equations.{Equations, IsFree}
 use Rattle.pm_store.specs.Solutions.{Solves}
-use Rattle.pm_store.specs.Trees.{tree, Occurs}
+use Rattle.pm_store.specs.Trees.{tree}
 use Rattle.pm_store.specs.Sound.{IsSound}
 use Rattle.pm_store.proofs.TreeLemmas.{tree-variable}
-use Rattle.pm_unify.specs.Support.{size, size_among, Notes}
+use Rattle.pm_unify.specs.Support.{size, Notes}
 use Rattle.pm_unify.specs.Pairs.{IsEqual, IsWithin, AreEqual, pair_size}
 use Rattle.pm_unify.specs.Steps.{Leaves, Binds}
 use Rattle.pm_unify.proofs.SupportLemmas.{All-last, total, total-append}

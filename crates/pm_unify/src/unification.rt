@@ -18,17 +18,10 @@ pub fn unify(alloc: Global, store: &mut Store, a: Addr, b: Addr) -> Result<bool,
 {
     let mark = store.mark();
     let solved = solve(alloc, store, a, b);
-    match solved {
-        Ok(true) => Ok(true),
-        Ok(false) => {
-            store.undo(mark);
-            Ok(false)
-        }
-        Err(error) => {
-            store.undo(mark);
-            Err(error)
-        }
+    if !matches!(solved, Ok(true)) {
+        store.undo(mark);
     }
+    solved
 }
 
 // Binds variables until both cells are equal in every solution, or until there is none in which
@@ -41,6 +34,7 @@ fn solve(alloc: Global, store: &mut Store, a: Addr, b: Addr) -> Result<bool, All
 {
     let mut pairs = Pairs::new(alloc, a, b)?;
     loop {
+        // For the proof: the store is sound.
         let _cells = store.len();
         match pairs.next_step(store)? {
             Step::Done => return Ok(true),
@@ -132,7 +126,7 @@ mod tests {
         Ok(())
     }
 
-    // The cell below so many applications of g, each to `width` times the one below it.
+    // So many applications of g above the cell, each to the one below it `width` times.
     fn tower(
         store: &mut Store,
         bottom: Addr,

@@ -1,4 +1,4 @@
-use Rattle.std.proofs.Common.{◌≡◌, ℕ, map, ◌∙◌, sym, ap, eqb-true}
+use Rattle.std.proofs.Common.{◌≡◌, map, ◌∙◌, sym, ap, eqb-true}
 use Rattle.pm_logic.specs.Term.{app, as_terms}
 use Rattle.pm_store.specs.Trees.{tree}
 use Rattle.pm_unify.proofs.LeavesLemmas.{leaves_all}
