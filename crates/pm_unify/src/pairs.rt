@@ -25,7 +25,8 @@ pub enum Step {
 #[derive(Drop)]
 pub struct Pairs {
     pub pending: SmallVec<(Addr, Addr), 8>,
-    /// The pairs that were taken apart.
+    /// The pairs that were taken apart, each of which is passed over when it is met again: it is equal
+    /// where what is pending is.
     pub taken: IndexSet<(Addr, Addr)>,
 }
 

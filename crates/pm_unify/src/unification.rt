@@ -152,11 +152,14 @@ mod tests {
         let mut store = Store::new(rt.alloc());
         let x = store.fresh()?;
         let y = store.fresh()?;
+        let z = store.fresh()?;
         let left = tower(&mut store, x, 2, 28)?;
         let right = tower(&mut store, y, 2, 28)?;
         assert!(rt; unify(rt.alloc(), &mut store, left, right)?);
         assert!(rt; is_free(&store, x, y));
         assert!(rt; !unify(rt.alloc(), &mut store, x, left)?);
+        assert!(rt; unify(rt.alloc(), &mut store, z, left)?);
+        assert!(rt; unify(rt.alloc(), &mut store, right, z)?);
         Ok(())
     }
 
