@@ -1,0 +1,7 @@
+pub mod SupportLemmas
+pub mod NoteLemmas
+pub mod PairLemmas
+pub mod LeavesLemmas
+pub mod TurnLemmas
+pub mod StandLemmas
+pub mod OccurrenceLemmas

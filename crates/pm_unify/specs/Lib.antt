@@ -1,0 +1,4 @@
+pub mod Support
+pub mod Pairs
+pub mod Steps
+pub mod Unified

@@ -1,0 +1,178 @@
+ghost use Rattle.std.specs.Prelude.{◌≡◌, ◌<◌, ◌≤◌, length, IfOk, OnErr};
+ghost use Rattle.pm_store.specs.Marks.{IsLater};
+ghost use Rattle.pm_unify.specs.Unified.{Answers, Solved};
+
+use crate::occurrence::occurs;
+use crate::pairs::{Pairs, Step};
+use pm_store::{Addr, Store};
+use std::alloc::{AllocError, Global};
+
+/// Makes two cells of the store equal by bindings, as few as it takes: on true the solutions of the
+/// store are exactly the old ones in which both cells have the same tree. On false there are none of
+/// these, and the store is as before. After want of memory the store is as before.
+pub fn unify(alloc: Global, store: &mut Store, a: Addr, b: Addr) -> Result<bool, AllocError>
+    requires left { a < length store.old.cells }
+    requires right { b < length store.old.cells }
+    ensures ok { IfOk result (Answers store.old store.new a b) }
+    ensures err { OnErr result (store.new ≡ store.old) }
+{
+    let mark = store.mark();
+    let solved = solve(alloc, store, a, b);
+    if !matches!(solved, Ok(true)) {
+        store.undo(mark);
+    }
+    solved
+}
+
+// Binds variables until both cells are equal in every solution, or until there is none in which
+// they are. The bindings stay in each case.
+fn solve(alloc: Global, store: &mut Store, a: Addr, b: Addr) -> Result<bool, AllocError>
+    requires left { a < length store.old.cells }
+    requires right { b < length store.old.cells }
+    ensures later { IsLater store.old store.new }
+    ensures ok { IfOk result (Solved store.old store.new a b) }
+{
+    let mut pairs = Pairs::new(alloc, a, b)?;
+    loop {
+        // For the proof: the store is sound.
+        let _cells = store.len();
+        match pairs.next_step(store)? {
+            Step::Done => return Ok(true),
+            Step::Clash => return Ok(false),
+            Step::Bind(v, t) => {
+                if occurs(alloc, store, v, t)? {
+                    return Ok(false);
+                }
+                store.bind(v, t)?;
+            }
+        }
+    }
+}
+
+#[cfg(test)]
+mod tests {
+    use super::*;
+    use pm_store::Cell;
+    use std::test::Fail;
+
+    // The symbols a, f and g.
+    const A: u32 = 0;
+
+    const F: u32 = 1;
+
+    const G: u32 = 2;
+
+    fn is_free(store: &Store, a: Addr, v: Addr) -> bool
+        requires { a < length store.now.cells }
+    {
+        match store.look(a) {
+            Cell::Free(w) => w == v,
+            Cell::App { .. } => false,
+        }
+    }
+
+    fn is_application(store: &Store, a: Addr, symbol: u32, args: &[Addr]) -> bool
+        requires { a < length store.now.cells }
+    {
+        match store.look(a) {
+            Cell::Free(_) => false,
+            Cell::App {
+                symbol: f,
+                args: shown,
+            } => f == symbol && shown == args,
+        }
+    }
+
+    #[test]
+    fn a_variable_and_a_term_around_it_do_not_unify(rt: HostRuntime) -> Result<(), Fail> {
+        let mut store = Store::new(rt.alloc());
+        let x = store.fresh()?;
+        let f_x = store.make(F, &[x])?;
+        assert!(rt; !unify(rt.alloc(), &mut store, x, f_x)?);
+        assert!(rt; is_free(&store, x, x));
+        assert_eq!(rt; store.len(), 2);
+        Ok(())
+    }
+
+    #[test]
+    fn a_variable_is_bound_to_the_argument_and_freed(rt: HostRuntime) -> Result<(), Fail> {
+        let mut store = Store::new(rt.alloc());
+        let x = store.fresh()?;
+        let f_x = store.make(F, &[x])?;
+        let a = store.make(A, &[])?;
+        let f_a = store.make(F, &[a])?;
+        let mark = store.mark();
+        assert!(rt; unify(rt.alloc(), &mut store, f_x, f_a)?);
+        assert!(rt; is_application(&store, x, A, &[]));
+        store.undo(mark);
+        assert!(rt; is_free(&store, x, x));
+        assert_eq!(rt; store.len(), 4);
+        Ok(())
+    }
+
+    // f(X, X) and f(Y, g(Y)).
+    #[test]
+    fn a_failed_attempt_leaves_no_binding(rt: HostRuntime) -> Result<(), Fail> {
+        let mut store = Store::new(rt.alloc());
+        let x = store.fresh()?;
+        let y = store.fresh()?;
+        let g_y = store.make(G, &[y])?;
+        let left = store.make(F, &[x, x])?;
+        let right = store.make(F, &[y, g_y])?;
+        assert!(rt; !unify(rt.alloc(), &mut store, left, right)?);
+        assert!(rt; is_free(&store, x, x));
+        assert!(rt; is_free(&store, y, y));
+        assert_eq!(rt; store.len(), 5);
+        Ok(())
+    }
+
+    // So many applications of g above the cell, each to the one below it `width` times.
+    fn tower(
+        store: &mut Store,
+        bottom: Addr,
+        width: usize,
+        times: usize,
+    ) -> Result<Addr, AllocError>
+        requires bottom { bottom < length store.old.cells }
+        requires width { width ≤ 2 }
+        ensures grows { length store.old.cells ≤ length store.new.cells }
+        ensures within { IfOk result (λ top. top < length store.new.cells) }
+    {
+        let mut top = bottom;
+        'floors: for _ in 0..times {
+            let args = [top, top];
+            top = store.make(G, &args[..width])?;
+        }
+        Ok(top)
+    }
+
+    // Both trees have 2^28 leaves.
+    #[test]
+    fn shared_terms_unify_at_once(rt: HostRuntime) -> Result<(), Fail> {
+        let mut store = Store::new(rt.alloc());
+        let x = store.fresh()?;
+        let y = store.fresh()?;
+        let z = store.fresh()?;
+        let left = tower(&mut store, x, 2, 28)?;
+        let right = tower(&mut store, y, 2, 28)?;
+        assert!(rt; unify(rt.alloc(), &mut store, left, right)?);
+        assert!(rt; is_free(&store, x, y));
+        assert!(rt; !unify(rt.alloc(), &mut store, x, left)?);
+        assert!(rt; unify(rt.alloc(), &mut store, z, left)?);
+        assert!(rt; unify(rt.alloc(), &mut store, right, z)?);
+        Ok(())
+    }
+
+    #[test]
+    fn long_chains_unify(rt: HostRuntime) -> Result<(), Fail> {
+        let mut store = Store::new(rt.alloc());
+        let x = store.fresh()?;
+        let a = store.make(A, &[])?;
+        let left = tower(&mut store, x, 1, 100_000)?;
+        let right = tower(&mut store, a, 1, 100_000)?;
+        assert!(rt; unify(rt.alloc(), &mut store, left, right)?);
+        assert!(rt; is_application(&store, x, A, &[]));
+        assert_eq!(rt; store.len(), 200_002);
+        Ok(())
+    }
+}
