@@ -7,7 +7,7 @@ use crate::pairs::{Pairs, Step};
 use pm_store::{Addr, Store};
 use std::alloc::{AllocError, Global};
 
-/// Makes two cells of the store equal by bindings, as few as it takes: on true the solutions of the
+/// Makes two cells of the store equal by bindings of variables: on true the solutions of the
 /// store are exactly the old ones in which both cells have the same tree. On false there are none of
 /// these, and the store is as before. After want of memory the store is as before.
 pub fn unify(alloc: Global, store: &mut Store, a: Addr, b: Addr) -> Result<bool, AllocError>
