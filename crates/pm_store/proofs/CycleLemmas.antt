@@ -1,19 +1,9 @@
 -- Trees are finite: a variable can't have the tree of a term in which it occurs.
 use Rattle.std.proofs.Common.{◌≡◌, ℕ, ◌+◌, ◌≤◌, inl, inr, sym, ◌∙◌, ap, subst, arith}
 use Rattle.pm_logic.specs.Term.{Term, var, app, Terms, no_terms, more_terms}
-use Rattle.pm_store.specs.Trees.{tree, Occurs, OccursAmong, fill, fill_among}
+use Rattle.pm_store.specs.Trees.{tree, Occurs, OccursAmong, fill, fill_among, size, size_among}
 use Rattle.pm_store.specs.Laws.{CyclesHaveNoSolution}
 use Rattle.pm_store.proofs.TreeLemmas.{general}
-
--- how many variables and symbols stand in a term
-abbrev mutual
-  pub size : Term → ℕ
-  size (var n) = 1
-  size (app symbol args) = 1 + size_among args
-
-  pub size_among : Terms → ℕ
-  size_among no_terms = 0
-  size_among (more_terms t ts) = size t + size_among ts
 
 -- a variable's tree is no larger than that of a term in which it occurs
 mutual

@@ -7,3 +7,13 @@ pub mod StoredLemmas
 pub mod LookLemmas
 pub mod MarkLemmas
 pub mod CycleLemmas
+pub mod NumberLemmas
+pub mod RowLemmas
+pub mod ResolvedLemmas
+pub mod PendingLemmas
+pub mod ReadyLemmas
+pub mod OpenLemmas
+pub mod VisitLemmas
+pub mod BuildLemmas
+pub mod ComesLemmas
+pub mod GivenLemmas

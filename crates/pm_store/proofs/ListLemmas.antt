@@ -1,7 +1,7 @@
 -- Entries of lists, and tests of equality.
-use Rattle.std.proofs.Common.{◌≡◌, ℕ, zero, suc, ◌<◌, ◌⊎◌, inl, inr, ◌==◌, if◌then◌else◌, List, [], ◌∷◌, ◌++◌, length, map, Some, slice_get, refl, ap, ap₂}
+use Rattle.std.proofs.Common.{◌≡◌, ℕ, zero, suc, ◌<◌, ◌⊎◌, inl, inr, ◌==◌, if◌then◌else◌, List, [], ◌∷◌, ◌++◌, length, map, Some, slice_get, true, false, not, true≢false, refl, sym, ◌∙◌, ap, ap₂}
 use Rattle.std.specs.Prelude.{All}
-use Rattle.std.proofs.lemmas.Bool.{eq-eqb, ne_eqb}
+use Rattle.std.proofs.lemmas.Bool.{eq-eqb, ne_eqb, cases_eq}
 use Rattle.std.proofs.lemmas.List.Elements.{All-head, All-tail}
 
 pub if_same : {A : Type 0} (m n : ℕ) (x y : A) → m ≡ n → (if m == n then x else y) ≡ x
@@ -9,6 +9,17 @@ if_same m n x y same = ap (λ b. if b then x else y) (eq-eqb m n same)
 
 pub if_other : {A : Type 0} (m n : ℕ) (x y : A) → (m ≡ n → ⊥) → (if m == n then x else y) ≡ y
 if_other m n x y other = ap (λ b. if b then x else y) (ne_eqb m n other)
+
+-- two numbers by the test that they differ
+pub same_from_test : (m n : ℕ) → not (m == n) ≡ false → m ≡ n
+same_from_test m n is =
+    elim (cases_eq m n) [
+      | inl e ↦ e
+      | inr ne ↦ absurd (true≢false (sym (ap not (ne_eqb m n ne)) ∙ is))
+    ]
+
+pub other_from_test : (m n : ℕ) → not (m == n) ≡ true → m ≡ n → ⊥
+other_from_test m n is same = true≢false (sym is ∙ ap not (eq-eqb m n same))
 
 -- what stands in a list stands in a longer one
 pub slice_get-append : {A : Type 0} (xs ys : List A) (i : ℕ) (x : A) → slice_get xs i ≡ Some x → slice_get (xs ++ ys) i ≡ Some x

@@ -1,8 +1,8 @@
 -- Terms with a term in the place of a variable, and terms with trees for their variables.
-use Rattle.std.proofs.Common.{◌≡◌, ℕ, inl, inr, List, [], ◌∷◌, map, refl, sym, ◌∙◌, ap, ap₂}
+use Rattle.std.proofs.Common.{◌≡◌, ℕ, ◌<◌, inl, inr, List, [], ◌∷◌, map, refl, sym, ◌∙◌, ap, ap₂, arith}
 use Rattle.std.proofs.lemmas.Bool.{cases_eq}
 use Rattle.pm_logic.specs.Term.{Term, var, app, Terms, no_terms, more_terms, as_terms}
-use Rattle.pm_store.specs.Trees.{put_at, put_at_among, Occurs, OccursAmong, fill, fill_among}
+use Rattle.pm_store.specs.Trees.{put_at, put_at_among, Occurs, OccursAmong, fill, fill_among, size}
 use Rattle.pm_store.proofs.ListLemmas.{if_same, if_other}
 
 mutual
@@ -43,3 +43,7 @@ pub fill_among-as_terms : (trees tree : ℕ → Term) (cells : List ℕ)
     → fill_among trees (as_terms (map tree cells)) ≡ as_terms (map (λ c. fill trees (tree c)) cells)
 fill_among-as_terms trees tree [] = refl
 fill_among-as_terms trees tree (c ∷ cs) = ap (more_terms (fill trees (tree c))) (fill_among-as_terms trees tree cs)
+
+pub size-positive : (t : Term) → 0 < size t
+size-positive (var n) = omega arith
+size-positive (app symbol args) = omega arith

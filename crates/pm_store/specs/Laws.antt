@@ -1,12 +1,13 @@
 -- Laws of solutions, and of marks.
-use Rattle.std.specs.Prelude.{◌≡◌, ◌≢◌, ℕ, ◌<◌, ◌≤◌, length}
-use Rattle.pm_logic.specs.Term.{Term, var}
+use Rattle.std.specs.Prelude.{◌≡◌, ◌≢◌, ℕ, ◌<◌, ◌≤◌, List, Some, length, slice_get, slice_index_or}
+use Rattle.pm_logic.specs.Term.{Term, var, tree_at}
 use Rattle.pm_store.specs.declared.store.Entry.{Entry}
 use Rattle.pm_store.specs.Equations.{Equations, with_cell, with_binding}
 use Rattle.pm_store.specs.Solutions.{Solves, with_tree}
 use Rattle.pm_store.specs.Sound.{IsSound}
 use Rattle.pm_store.specs.Trees.{tree, fill, Occurs}
 use Rattle.pm_store.specs.Marks.{Counts, IsLater, HasMark}
+use Rattle.pm_store.specs.Resolved.{Resolved, row_of, IsResolved}
 
 -- the cells' trees solve the store
 abbrev pub TreesSolve : Type 0
@@ -26,6 +27,17 @@ OtherCellsAreOpen = (s : Equations) (solution : ℕ → Term) (c : ℕ) (t : Ter
 abbrev pub CyclesHaveNoSolution : Type 0
 CyclesHaveNoSolution = (s : Equations) (v t : ℕ) → IsSound s → t < length s.cells → Occurs v (tree s t) → tree s t ≢ var v
     → (solution : ℕ → Term) → Solves s solution → solution v ≢ solution t
+
+-- the terms that a resolver has given for cells are those of one solution
+abbrev pub ResolvedTermsSolve : Type 0
+ResolvedTermsSolve = (s : Equations) (r : Resolved) (table : List Term) → IsSound s → IsResolved s r table
+    → (solution : ℕ → Term) × Solves s solution × ((cell row : ℕ) → row_of r cell ≡ Some row → slice_get table row ≡ Some (solution cell))
+
+-- in each solution the trees of these cells are instances of them, by its trees of the free variables
+abbrev pub ResolvedTermsAreGeneral : Type 0
+ResolvedTermsAreGeneral = (s : Equations) (r : Resolved) (table : List Term) (solution : ℕ → Term) → IsSound s → IsResolved s r table → Solves s solution
+    → (cell row : ℕ) → cell < length s.cells → row_of r cell ≡ Some row
+    → solution cell ≡ fill (λ n. solution (slice_index_or r.free n 0)) (tree_at table row)
 
 -- a store is later than itself, and with one more cell or binding later than before
 pub record Grows (s : Equations) : Type 0 where

@@ -5,4 +5,6 @@ pub mod Sound
 pub mod Marks
 pub mod Stored
 pub mod View
+pub mod Resolved
+pub mod Pending
 pub mod Laws

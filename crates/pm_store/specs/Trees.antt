@@ -1,5 +1,5 @@
 -- The trees of cells in which each free variable stands for itself.
-use Rattle.std.specs.Prelude.{◌≡◌, ℕ, ◌⊎◌, ◌==◌, if◌then◌else◌, List, [], ◌∷◌, ◌++◌, length, map}
+use Rattle.std.specs.Prelude.{◌≡◌, ℕ, ◌+◌, ◌⊎◌, ◌==◌, if◌then◌else◌, List, [], ◌∷◌, ◌++◌, length, map}
 use Rattle.pm_logic.specs.Term.{Term, var, app, Terms, no_terms, more_terms, as_terms, tree_at}
 use Rattle.pm_store.specs.declared.store.Entry.{Entry}
 use Rattle.pm_store.specs.declared.store.Entry.TheVariants.{Variable, Application}
@@ -52,3 +52,13 @@ abbrev mutual
   pub fill_among : (ℕ → Term) → Terms → Terms
   fill_among trees no_terms = no_terms
   fill_among trees (more_terms t ts) = more_terms (fill trees t) (fill_among trees ts)
+
+-- how many variables and symbols stand in a term
+abbrev mutual
+  pub size : Term → ℕ
+  size (var n) = 1
+  size (app symbol args) = 1 + size_among args
+
+  pub size_among : Terms → ℕ
+  size_among no_terms = 0
+  size_among (more_terms t ts) = size t + size_among ts
