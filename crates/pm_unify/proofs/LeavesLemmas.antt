@@ -6,7 +6,7 @@ use Rattle.std.proofs.lemmas.List.Elements.{All-append, All-push, All-contains}
 use Rattle.pm_logic.specs.Term.{Term, app, as_terms}
 use Rattle.pm_store.specs.Equations.{Equations}
 use Rattle.pm_store.specs.Solutions.{Solves}
-use Rattle.pm_unify.specs.Support.{size, size_among}
+use Rattle.pm_store.specs.Trees.{size, size_among}
 use Rattle.pm_unify.specs.Pairs.{IsEqual, IsWithin, AreWithin, AreSupported, pair_size}
 use Rattle.pm_unify.specs.Steps.{Leaves}
 use Rattle.pm_unify.proofs.SupportLemmas.{All-left, All-last, supported_drop, supported_again, supported_enter}

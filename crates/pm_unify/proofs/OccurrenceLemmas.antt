@@ -5,10 +5,10 @@ use Rattle.std.proofs.lemmas.List.Elements.{All-nil, All-cons, All-head, All-tai
 use Rattle.pm_logic.specs.Term.{Term, app, as_terms}
 use Rattle.pm_store.specs.Equations.{Equations, IsFree}
 use Rattle.pm_store.specs.Sound.{IsSound}
-use Rattle.pm_store.specs.Trees.{tree, Occurs, OccursAmong}
+use Rattle.pm_store.specs.Trees.{tree, Occurs, OccursAmong, size, size_among}
+use Rattle.pm_store.proofs.TermLemmas.{size-positive}
 use Rattle.pm_store.proofs.TreeLemmas.{tree-variable}
-use Rattle.pm_unify.specs.Support.{size, size_among, IsSupported, Notes}
-use Rattle.pm_unify.proofs.PairLemmas.{size-positive}
+use Rattle.pm_unify.specs.Support.{IsSupported, Notes}
 use Rattle.pm_unify.proofs.TurnLemmas.{total-popped, total-replaced}
 use Rattle.pm_unify.proofs.SupportLemmas.{All-left, All-last, total, all_supported, supported_drop, supported_again, supported_enter}
 

@@ -3,15 +3,11 @@ use Rattle.std.proofs.Common.{◌≡◌, ℕ, suc, ◌+◌, ◌<◌, ◌≤◌, 
 use Rattle.std.specs.Prelude.{All}
 use Rattle.std.specs.List.{zip}
 use Rattle.std.proofs.lemmas.List.Elements.{All-nil, All-cons, All-head, All-tail}
-use Rattle.pm_logic.specs.Term.{Term, var, app, more_terms, as_terms}
+use Rattle.pm_logic.specs.Term.{Term, more_terms, as_terms}
 use Rattle.pm_store.specs.Equations.{Equations}
-use Rattle.pm_unify.specs.Support.{size, size_among}
+use Rattle.pm_store.specs.Trees.{size_among}
 use Rattle.pm_unify.specs.Pairs.{IsEqual, IsWithin, AreWithin, pair_size}
 use Rattle.pm_unify.proofs.SupportLemmas.{total}
-
-pub size-positive : (t : Term) → 0 < size t
-size-positive (var n) = omega arith
-size-positive (app symbol args) = omega arith
 
 pub zip_within : (s : Equations) (xs ys : List ℕ) → All (λ x. x < length s.cells) xs → All (λ y. y < length s.cells) ys → AreWithin s (zip xs ys)
 zip_within s [] ys left right = All-nil (IsWithin s)

@@ -5,14 +5,15 @@ use Rattle.std.specs.List.{zip}
 use Rattle.pm_logic.specs.Term.{Term, var, app, Terms, as_terms}
 use Rattle.pm_store.specs.Equations.{Equations, IsFree}
 use Rattle.pm_store.specs.Solutions.{Solves}
-use Rattle.pm_store.specs.Trees.{tree}
+use Rattle.pm_store.specs.Trees.{tree, size}
 use Rattle.pm_store.specs.Sound.{IsSound}
+use Rattle.pm_store.proofs.TermLemmas.{size-positive}
 use Rattle.pm_store.proofs.TreeLemmas.{tree-variable}
-use Rattle.pm_unify.specs.Support.{size, Notes}
+use Rattle.pm_unify.specs.Support.{Notes}
 use Rattle.pm_unify.specs.Pairs.{IsEqual, IsWithin, AreEqual, pair_size}
 use Rattle.pm_unify.specs.Steps.{Leaves, Binds}
 use Rattle.pm_unify.proofs.SupportLemmas.{All-last, total, total-append}
-use Rattle.pm_unify.proofs.PairLemmas.{size-positive, total-zip, same_count}
+use Rattle.pm_unify.proofs.PairLemmas.{total-zip, same_count}
 use Rattle.pm_unify.proofs.LeavesLemmas.{leaves_drop, leaves_again, leaves_apart, AreAlike}
 
 pub total-popped : {A : Type 0} (size_of : A → ℕ) (pending rest : List A) (x : A) → pending ≡ rest ++ x ∷ [] → 0 < size_of x

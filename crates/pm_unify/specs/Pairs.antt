@@ -3,7 +3,8 @@ use Rattle.std.specs.Prelude.{◌≡◌, ℕ, ◌+◌, ◌<◌, List, All, lengt
 use Rattle.pm_logic.specs.Term.{Term}
 use Rattle.pm_store.specs.Equations.{Equations}
 use Rattle.pm_store.specs.Solutions.{Solves}
-use Rattle.pm_unify.specs.Support.{size, IsSupported}
+use Rattle.pm_store.specs.Trees.{size}
+use Rattle.pm_unify.specs.Support.{IsSupported}
 
 abbrev pub IsEqual : (ℕ → Term) → ℕ × ℕ → Type 0
 IsEqual trees p = trees p.0 ≡ trees p.1

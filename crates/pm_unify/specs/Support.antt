@@ -1,16 +1,5 @@
 -- What is known of things that were gone into once, from those that are pending.
-use Rattle.std.specs.Prelude.{◌≡◌, ℕ, suc, ◌+◌, ◌<◌, Bool, true, false, List, [], ◌∷◌, ◌++◌, All, Contains}
-use Rattle.pm_logic.specs.Term.{Term, var, app, Terms, no_terms, more_terms}
-
--- how many variables and symbols stand in a term
-abbrev mutual
-  pub size : Term → ℕ
-  size (var n) = 1
-  size (app symbol args) = 1 + size_among args
-
-  pub size_among : Terms → ℕ
-  size_among no_terms = 0
-  size_among (more_terms t ts) = size t + size_among ts
+use Rattle.std.specs.Prelude.{◌≡◌, ℕ, suc, ◌<◌, Bool, true, false, List, [], ◌∷◌, ◌++◌, All, Contains}
 
 module _ {A : Type 0} where
   -- a thing is noted as the last one, where it is new

@@ -52,7 +52,8 @@ fn solve(alloc: Global, store: &mut Store, a: Addr, b: Addr) -> Result<bool, All
 #[cfg(test)]
 mod tests {
     use super::*;
-    use pm_store::Cell;
+    use pm_logic::TermTable;
+    use pm_store::{Cell, Resolver};
     use std::test::Fail;
 
     // The symbols a, f and g.
@@ -146,7 +147,7 @@ mod tests {
         Ok(top)
     }
 
-    // Both trees have 2^28 leaves.
+    // Both trees have 2^28 leaves, and 29 rows of a table.
     #[test]
     fn shared_terms_unify_at_once(rt: HostRuntime) -> Result<(), Fail> {
         let mut store = Store::new(rt.alloc());
@@ -160,6 +161,45 @@ mod tests {
         assert!(rt; !unify(rt.alloc(), &mut store, x, left)?);
         assert!(rt; unify(rt.alloc(), &mut store, z, left)?);
         assert!(rt; unify(rt.alloc(), &mut store, right, z)?);
+        let mut table = TermTable::new(rt.alloc());
+        let mut resolver = Resolver::new(rt.alloc());
+        let left = resolver.resolve(&store, left, &mut table)?;
+        let z = resolver.resolve(&store, z, &mut table)?;
+        assert_eq!(rt; left, z);
+        assert_eq!(rt; table.len(), 29);
+        Ok(())
+    }
+
+    // f(X1, .., Xn) and f(g(X0, X0), .., g(Xm, Xm)), where m is n - 1.
+    fn doublings(alloc: Global, store: &mut Store, times: usize) -> Result<(Addr, Addr), AllocError>
+        ensures { IfOk result (λ both. (both.0 < length store.new.cells) × (both.1 < length store.new.cells)) }
+    {
+        let mut variables = Vec::new(alloc);
+        let mut doubles = Vec::new(alloc);
+        let mut last = store.fresh()?;
+        'doublings: for _ in 0..times {
+            let double = store.make(G, &[last, last])?;
+            doubles.push(double)?;
+            last = store.fresh()?;
+            variables.push(last)?;
+        }
+        let left = store.make(F, &variables)?;
+        let right = store.make(F, &doubles)?;
+        Ok((left, right))
+    }
+
+    // X28 then has a tree with 2^28 leaves.
+    #[test]
+    fn lists_of_doublings_unify(rt: HostRuntime) -> Result<(), Fail> {
+        let mut store = Store::new(rt.alloc());
+        let (left, right) = doublings(rt.alloc(), &mut store, 28)?;
+        assert!(rt; unify(rt.alloc(), &mut store, left, right)?);
+        let mut table = TermTable::new(rt.alloc());
+        let mut resolver = Resolver::new(rt.alloc());
+        let left = resolver.resolve(&store, left, &mut table)?;
+        let right = resolver.resolve(&store, right, &mut table)?;
+        assert_eq!(rt; left, right);
+        assert_eq!(rt; table.len(), 30);
         Ok(())
     }
 
@@ -173,6 +213,10 @@ mod tests {
         assert!(rt; unify(rt.alloc(), &mut store, left, right)?);
         assert!(rt; is_application(&store, x, A, &[]));
         assert_eq!(rt; store.len(), 200_002);
+        let mut table = TermTable::new(rt.alloc());
+        let mut resolver = Resolver::new(rt.alloc());
+        resolver.resolve(&store, left, &mut table)?;
+        assert_eq!(rt; table.len(), 100_001);
         Ok(())
     }
 }
