@@ -1,13 +1,6 @@
-pub mod AsciiWords
-pub mod Loops
-pub mod Tokens
-pub mod Grammar
 pub mod TextLemmas
 pub mod Certificates
-pub mod Numbers
-pub mod Clauses
 pub mod Puts
-pub mod Files
 pub mod Runs
 pub mod Places
 pub mod Labels

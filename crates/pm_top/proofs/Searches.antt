@@ -1,12 +1,8 @@
 -- How the search of a problem ends, and what follows of its answer.
 use Rattle.std.proofs.Common.{◌≡◌, ℕ, ◌<◌, inl, inr, List, [], ◌∷◌, length, Option, Some, None, IfSome, refl, ◌∙◌, ap, subst, arith}
-use Rattle.std.specs.Prelude.{All}
-use Rattle.std.specs.List.{AllByRecursion}
 use Rattle.std.proofs.lemmas.Bool.{cases_lt}
-use Rattle.std.proofs.lemmas.List.Elements.{All-from_recursion}
 use Rattle.pm_logic.specs.declared.problem.Start.{Start as Rule}
 use Rattle.pm_logic.specs.declared.problem.Start.TheVariants.{Negative}
-use Rattle.pm_logic.specs.Problem as logic
 use Rattle.pm_logic.specs.Problem.{Problem}
 use Rattle.pm_logic.specs.Tableau.{Tableau, depth}
 use Rattle.pm_logic.specs.Connection.{IsInClass}
@@ -20,32 +16,10 @@ use Rattle.pm_deepen.specs.Answer.{AreExhausted, IsAnswer}
 use Rattle.pm_deepen.specs.Levels.{key_of, IsAnswerOf}
 use Rattle.pm_top.specs.declared.status.Status.{Status}
 use Rattle.pm_top.specs.declared.status.Status.TheVariants as ends
-use Rattle.pm_top.specs.FirstForm as form
-use Rattle.pm_top.specs.Numbering.{Pairwise, IsLiteralOf, IsClauseOf, IsProblemOf}
-use Rattle.pm_top.specs.Drawn.{HasNoArguments}
 use Rattle.pm_top.specs.Spaces.{plain_level}
 use Rattle.pm_top.specs.Text.{gave_up, resource_out}
 use Rattle.pm_top.specs.Certificate.{proof_text}
 use Rattle.pm_top.specs.Run.{standard, level_of, status_of, text_of, IsProofAt, EndsSearch}
-
--- ---- the problem of items has no arguments
-literals_bare : (symbols : List logic.Symbol) (written : List form.Literal) (ls : List logic.Literal) → Pairwise (IsLiteralOf symbols) written ls → AllByRecursion (λ (l : logic.Literal). length l.args ≡ 0) ls
-literals_bare symbols [] [] h = tt
-literals_bare symbols [] (l ∷ ls) h = absurd h
-literals_bare symbols (w ∷ ws) [] h = absurd h
-literals_bare symbols (w ∷ ws) (l ∷ ls) h = (ap length h.0.bare, literals_bare symbols ws ls h.1)
-
-clauses_bare : (symbols : List logic.Symbol) (items : List form.Item) (cs : List logic.Clause) → Pairwise (IsClauseOf symbols) items cs
-    → AllByRecursion (λ (c : logic.Clause). All (λ (l : logic.Literal). length l.args ≡ 0) c.literals) cs
-clauses_bare symbols [] [] h = tt
-clauses_bare symbols [] (c ∷ cs) h = absurd h
-clauses_bare symbols (i ∷ is) [] h = absurd h
-clauses_bare symbols (i ∷ is) (c ∷ cs) h =
-    (All-from_recursion (λ (l : logic.Literal). length l.args ≡ 0) c.literals (literals_bare symbols i.literals c.literals h.0.literals), clauses_bare symbols is cs h.1)
-
-pub problem_bare : (items : List form.Item) (problem : Problem) → IsProblemOf items problem → HasNoArguments problem
-problem_bare items problem h =
-    All-from_recursion (λ (c : logic.Clause). All (λ (l : logic.Literal). length l.args ≡ 0) c.literals) problem.clauses (clauses_bare problem.symbols items problem.clauses h.clauses)
 
 -- ---- what follows of an answer
 exhausted_empty : (problem : Problem) (works : List ℕ) → AreExhausted (λ bound. key_of (level_of problem bound)) standard.budget works

@@ -1,8 +1,3 @@
-pub mod Token
-pub mod FirstForm
-pub mod Reading
-pub mod View
-pub mod Numbering
 pub mod Goals
 pub mod GoalViews
 pub mod KeyLaws
@@ -13,4 +8,5 @@ pub mod Status
 pub mod Text
 pub mod Certificate
 pub mod JobWords
+pub mod JobViews
 pub mod Run

@@ -1,5 +1,5 @@
 -- What a run learns of its file, what it prints, and what each of its ends says.
-use Rattle.std.specs.Prelude.{◌≡◌, ℕ, ◌<◌, ◌≤◌, List, [], length, Option, None, Some, IsNone, IfSome, IsSomeAnd}
+use Rattle.std.specs.Prelude.{◌≡◌, ℕ, ◌<◌, ◌≤◌, ◌⊎◌, List, [], length, Option, None, Some, IsNone, IfSome, IsSomeAnd}
 use Rattle.std.specs.FinMap as map
 use Rattle.pm_logic.specs.declared.problem.Class.TheVariants.{Plain}
 use Rattle.pm_logic.specs.declared.problem.Start.TheVariants.{Negative}
@@ -16,25 +16,36 @@ use Rattle.pm_top.specs.declared.run.Fault.{Fault}
 use Rattle.pm_top.specs.declared.run.Fault.TheVariants.{Missing, ReadFault, NoMemory}
 use Rattle.pm_top.specs.declared.status.Status.{Status}
 use Rattle.pm_top.specs.declared.status.Status.TheVariants as ends
-use Rattle.pm_top.specs.JobWords.{file_to_prove}
-use Rattle.pm_top.specs.FirstForm.{IsFirstForm}
-use Rattle.pm_top.specs.Numbering.{IsProblemIn}
-use Rattle.pm_top.specs.Text.{gave_up, resource_out, bad_words, not_in_the_first_form, too_long}
+use Rattle.pm_cnf.specs.declared.error.CnfKind.{CnfKind}
+use Rattle.pm_cnf.specs.declared.limits.Limits.{Limits}
+use Rattle.pm_cnf.specs.Lexemes.{line_of, column_of}
+use Rattle.pm_cnf.specs.Offences.{IsFirstOffence}
+use Rattle.pm_cnf.specs.Meaning.{IsProblemIn}
+use Rattle.pm_cnf.specs.Refusals.{before}
+use Rattle.pm_cnf.specs.Text.{problem_text}
+use Rattle.pm_top.specs.JobWords.{Job, prove, clauses, file_of, job_of}
+use Rattle.pm_top.specs.Drawn.{HasNoArguments}
+use Rattle.pm_top.specs.Text.{gave_up, resource_out, bad_words, input_error, arguments_not_built, too_long}
 use Rattle.pm_top.specs.Certificate.{proof_text}
 
--- what a run learns of its file: the words name none, these are its bytes, or it is over the limit
+-- what a run learns of its file: the words are no job, these are the job and the file's bytes, or the file is
+-- over the limit
 pub data Fetched : Type 0 where
   no_file : Fetched
-  these_bytes : List ℕ → Fetched
+  these_bytes : Job → List ℕ → Fetched
   over_limit : Fetched
 
 -- It learnt this of the words and, where the library tells its files, of the file; and it learns that a
 -- file is over the limit only where the library's count of such files rose. (Its values before and after
 -- the run are `longs`.)
 abbrev pub HasLearnt : List (List ℕ) → Option Files → ℕ × ℕ → Fetched → Type 0
-HasLearnt words told longs no_file = IsNone (file_to_prove words)
-HasLearnt words told longs (these_bytes bytes) = IsSomeAnd (file_to_prove words) (λ file. (length bytes ≤ MAX_FILE_BYTES) × IfSome told (λ files. map.get files file ≡ Some bytes))
-HasLearnt words told longs over_limit = Rose longs.0 longs.1 × IsSomeAnd (file_to_prove words) (λ file. IfSome told (λ files. IsSomeAnd (map.get files file) (λ bytes. MAX_FILE_BYTES < length bytes)))
+HasLearnt words told longs no_file = IsNone (job_of words)
+HasLearnt words told longs (these_bytes job bytes) = (job_of words ≡ Some job) × (length bytes ≤ MAX_FILE_BYTES) × IfSome told (λ files. map.get files (file_of job) ≡ Some bytes)
+HasLearnt words told longs over_limit = Rose longs.0 longs.1 × IsSomeAnd (job_of words) (λ job. IfSome told (λ files. IsSomeAnd (map.get files (file_of job)) (λ bytes. MAX_FILE_BYTES < length bytes)))
+
+-- the limits of every clause file
+abbrev pub standard_limits : Limits
+standard_limits = record { clauses = 65536; literals = 255; variables = 1000; arity = 255; nesting = 1000 }
 
 -- what a problem is searched with
 abbrev pub standard : Options
@@ -75,11 +86,28 @@ pub record EndsSearch (problem : Problem) (status : Status) (text : List ℕ) : 
   pub exhausted : (level : ℕ) → level < length works → (member : Tableau) → IsInClass (level_of problem level) member → ⊥
   pub proved : IfSome tableau (IsProofAt problem (length works))
 
--- The status and text with which a run over these bytes ends: they are refused exactly where they
--- aren't in the first form.
-abbrev pub EndsRun : List ℕ → Status → List ℕ → Type 0
-EndsRun bytes ends.BadInput text = (¬ IsFirstForm bytes) × (text ≡ not_in_the_first_form)
-EndsRun bytes status text = (problem : Problem) × IsProblemIn bytes problem × EndsSearch problem status text
+-- the text names the first offence of the bytes and its place
+abbrev pub IsRefusal : List ℕ → List ℕ → Type 0
+IsRefusal bytes text =
+    (rest : List ℕ) × (kind : CnfKind) × IsFirstOffence standard_limits bytes rest kind × (text ≡ input_error (line_of (before bytes rest)) (column_of (before bytes rest)) kind)
+
+-- The status and text with which the proof of these bytes ends: they are refused exactly where they have an
+-- offence, or where a kept literal has arguments.
+abbrev pub EndsProof : List ℕ → Status → List ℕ → Type 0
+EndsProof bytes ends.BadInput text =
+    IsRefusal bytes text ⊎ ((problem : Problem) × IsProblemIn standard_limits bytes problem × (¬ HasNoArguments problem) × (text ≡ arguments_not_built))
+EndsProof bytes status text = (problem : Problem) × IsProblemIn standard_limits bytes problem × HasNoArguments problem × EndsSearch problem status text
+
+-- The status and text with which the writing of these bytes' clauses ends: they are refused exactly where
+-- they have an offence.
+abbrev pub EndsClauses : List ℕ → Status → List ℕ → Type 0
+EndsClauses bytes ends.BadInput text = IsRefusal bytes text
+EndsClauses bytes ends.Done text = (problem : Problem) × IsProblemIn standard_limits bytes problem × (text ≡ problem_text problem)
+EndsClauses bytes status text = ⊥
+
+abbrev pub EndsJob : Job → List ℕ → Status → List ℕ → Type 0
+EndsJob (prove file) bytes status text = EndsProof bytes status text
+EndsJob (clauses file) bytes status text = EndsClauses bytes status text
 
 -- the status and text of what was learnt
 abbrev pub IsOutput : Fetched → Status → List ℕ → Type 0
@@ -87,7 +115,7 @@ IsOutput no_file ends.BadWords text = text ≡ bad_words
 IsOutput no_file status text = ⊥
 IsOutput over_limit ends.BadInput text = text ≡ too_long 1
 IsOutput over_limit status text = ⊥
-IsOutput (these_bytes bytes) status text = EndsRun bytes status text
+IsOutput (these_bytes job bytes) status text = EndsJob job bytes status text
 
 -- a run's output: what it learnt, and the status and the text of that
 pub record Output (words : List (List ℕ)) (told : Option Files) (longs : ℕ × ℕ) (status : Status) (text : List ℕ) : Type 0 where
@@ -106,7 +134,7 @@ HasWritten words told longs old new status = (text : List ℕ) × Output words t
 
 -- the file that the words name isn't among the told ones
 abbrev pub IsMissing : List (List ℕ) → Option Files → Type 0
-IsMissing words told = IsSomeAnd (file_to_prove words) (λ file. IfSome told (λ files. map.get files file ≡ None))
+IsMissing words told = IsSomeAnd (job_of words) (λ job. IfSome told (λ files. map.get files (file_of job) ≡ None))
 
 -- the status of a run that a fault ends
 abbrev pub fault_status : Fault → Status

@@ -1,5 +1,7 @@
 -- The texts that a run prints.
 use Rattle.std.specs.Prelude.{ℕ, ◌+◌, List, [], ◌∷◌, ◌++◌, length, codes, decimal}
+use Rattle.pm_cnf.specs.declared.error.CnfKind.{CnfKind}
+use Rattle.pm_cnf.specs.Words.{kind_word}
 
 -- level d exhausted attempts N
 abbrev pub level_line : ℕ → ℕ → List ℕ
@@ -25,8 +27,12 @@ resource_out works = codes "% SZS status ResourceOut\n" ++ level_lines works ++ 
 abbrev pub bad_words : List ℕ
 bad_words = codes "parmel: bad words\n"
 
-abbrev pub not_in_the_first_form : List ℕ
-not_in_the_first_form = codes "% SZS status InputError\nnot in the first form\n"
+-- an offence of this kind stands at this place of the clause file
+abbrev pub input_error : ℕ → ℕ → CnfKind → List ℕ
+input_error line column kind = codes "% SZS status InputError\nline " ++ decimal line ++ codes " column " ++ decimal column ++ codes " " ++ kind_word kind ++ codes "\n"
+
+abbrev pub arguments_not_built : List ℕ
+arguments_not_built = codes "% SZS status InputError\narguments are not built\n"
 
 -- the file of this place in the words is over its limit
 abbrev pub too_long : ℕ → List ℕ

@@ -7,7 +7,7 @@ ghost use Rattle.pm_logic.specs.Skeleton.{face_of, is_opposite};
 ghost use Rattle.pm_top.specs.Certificate.{certificate, closer, lines_among, lines_below, node_front, proof_text};
 
 use crate::texts::{push_levels, push_number};
-use pm_logic::{Literal, Node, NodeKind, Problem, Symbols, Tableau, tableau_depth};
+use pm_logic::{Literal, Node, NodeKind, Problem, Symbols, Tableau, tableau_depth, write_word};
 use std::alloc::{AllocError, Global};
 
 /// Whether the literals have the same predicate and opposite signs, which makes them complementary where
@@ -42,7 +42,7 @@ fn push_front(
     push_number(text, depth)?;
     text.extend_from_slice(if literal.positive { b" + " } else { b" - " })?;
     if literal.predicate < symbols.len() {
-        text.extend_from_slice(symbols.text(literal.predicate).as_bytes())?;
+        write_word(text, symbols.text(literal.predicate))?;
     }
     Ok(())
 }

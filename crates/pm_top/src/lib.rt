@@ -4,16 +4,11 @@
 mod calculus;
 mod certificate;
 mod drawing;
-mod items;
-mod problem;
 mod put;
-mod reader;
 mod run;
-mod scan;
 mod space;
 mod status;
 mod texts;
-mod token;
 mod words;
 
 pub use run::{output_is_determined, run_alone};

@@ -1,25 +1,27 @@
 //! The top call.
-ghost use Rattle.std.specs.Prelude.{◌≡◌, ℕ, ◌<◌, ◌≤◌, Option, None, Some, IsNone, IfSome, IsSomeAnd, IfOk, IfErr, OnErr, IsErrOf, length, map, string_bytes};
+ghost use Rattle.std.specs.Prelude.{◌≡◌, ◌==◌, ℕ, ◌<◌, ◌≤◌, true, false, Option, None, Some, IsNone, IfSome, IsSomeAnd, IfOk, IfErr, OnErr, IsErrOf, length, map, string_bytes};
+ghost use Rattle.std.specs.List.{list_all};
 ghost use Rattle.std.specs.FinMap as files;
 ghost use Rattle.pm_outside.specs.Outside.{Rose};
-ghost use Rattle.pm_top.specs.JobWords.{file_to_prove};
+ghost use Rattle.pm_cnf.specs.Refusals.{Refuses};
+ghost use Rattle.pm_top.specs.JobWords.{job_of};
+ghost use Rattle.pm_top.specs.JobViews.{job_view};
 ghost use Rattle.pm_logic.specs.Tableau.{Tableau};
 ghost use Rattle.pm_logic.specs.Choices.{IsComplete, IsGeneral};
 ghost use Rattle.pm_top.specs.Certificate.{proof_text};
 ghost use Rattle.pm_top.specs.Drawn.{HasNoArguments};
 ghost use Rattle.pm_top.specs.Spaces.{plain_level};
-ghost use Rattle.pm_top.specs.Run.{Output, OutputIsDetermined, HasWritten, EndsRun, EndsSearch, IsMissing, fault_status};
+ghost use Rattle.pm_top.specs.Run.{Output, OutputIsDetermined, HasWritten, EndsJob, EndsProof, EndsClauses, EndsSearch, IsRefusal, IsMissing, fault_status, standard_limits};
 
 use crate::calculus::Calculus;
 use crate::certificate::proof;
-use crate::items::ReadError;
 use crate::put::put_text;
-use crate::reader::read;
 use crate::status::Status;
-use crate::texts::{bad_words, gave_up, not_first_form, resource_out, too_long};
-use crate::words::file_to_prove;
+use crate::texts::{arguments_not_built, bad_words, gave_up, input_error, resource_out, too_long};
+use crate::words::{Job, job_of};
+use pm_cnf::{CnfError, Limits, read, write};
 use pm_deepen::{DeepEnd, Outcome, deepen_alone};
-use pm_logic::{Problem, Start};
+use pm_logic::{Clause, Problem, Start};
 use pm_outside::{FetchFault, Library, Sink};
 use std::alloc::{AllocError, Global};
 
@@ -111,17 +113,79 @@ fn search(alloc: Global, problem: &Problem) -> Result<Answer, AllocError>
     }
 }
 
-/// Does the job for a file of these bytes.
-fn prove(alloc: Global, bytes: &[u8]) -> Result<Answer, AllocError>
-    ensures { IfOk result (λ answer. EndsRun bytes.now answer.status answer.text.items) }
+/// Whether a literal of the problem has arguments.
+fn has_arguments(problem: &Problem) -> bool
+    ensures none { result ≡ false → HasNoArguments problem.now }
+    ensures some { result ≡ true → ¬ HasNoArguments problem.now }
 {
-    match read(alloc, bytes) {
-        Ok(problem) => search(alloc, &problem),
-        Err(ReadError::NotFirstForm) => Ok(Answer {
+    'clauses: for i in 0..problem.clauses() {
+        if !is_bare(problem.clause(i)) {
+            return true;
+        }
+    }
+    false
+}
+
+/// Whether no literal of the clause has arguments.
+fn is_bare(clause: &Clause) -> bool
+    ensures { result ≡ list_all (λ literal. length literal.args.items == 0) clause.now.literals.items }
+{
+    clause
+        .literals
+        .iter()
+        .all(|literal| literal.args.is_empty())
+}
+
+/// The answer for bytes that aren't read.
+fn refuse(alloc: Global, error: CnfError) -> Result<Answer, AllocError>
+    ensures { IfOk result (λ answer. (bytes : _) → Refuses standard_limits bytes error → (answer.status ≡ Status.BadInput) × IsRefusal bytes answer.text.items) }
+{
+    match error {
+        CnfError::At { place, kind } => Ok(Answer {
             status: Status::BadInput,
-            text: not_first_form(alloc)?,
+            text: input_error(alloc, place, kind)?,
         }),
-        Err(ReadError::Memory) => Err(AllocError),
+        CnfError::Memory => Err(AllocError),
+    }
+}
+
+/// Proves the clauses of a file of these bytes.
+fn prove(alloc: Global, bytes: &[u8]) -> Result<Answer, AllocError>
+    requires { length bytes.now ≤ MAX_FILE_BYTES }
+    ensures { IfOk result (λ answer. EndsProof bytes.now answer.status answer.text.items) }
+{
+    match read(alloc, bytes, &Limits::standard()) {
+        Ok(problem) if has_arguments(&problem) => Ok(Answer {
+            status: Status::BadInput,
+            text: arguments_not_built(alloc)?,
+        }),
+        Ok(problem) => search(alloc, &problem),
+        Err(error) => refuse(alloc, error),
+    }
+}
+
+/// Writes the clauses of a file of these bytes.
+fn write_clauses(alloc: Global, bytes: &[u8]) -> Result<Answer, AllocError>
+    requires { length bytes.now ≤ MAX_FILE_BYTES }
+    ensures { IfOk result (λ answer. EndsClauses bytes.now answer.status answer.text.items) }
+{
+    match read(alloc, bytes, &Limits::standard()) {
+        Ok(problem) => Ok(Answer {
+            status: Status::Done,
+            text: write(alloc, &problem)?,
+        }),
+        Err(error) => refuse(alloc, error),
+    }
+}
+
+/// Does the job for a file of these bytes.
+fn do_job(alloc: Global, job: Job<'_>, bytes: &[u8]) -> Result<Answer, AllocError>
+    requires { length bytes.now ≤ MAX_FILE_BYTES }
+    ensures { IfOk result (λ answer. EndsJob (job_view job.entry) bytes.now answer.status answer.text.items) }
+{
+    match job {
+        Job::Prove { .. } => prove(alloc, bytes),
+        Job::Clauses { .. } => write_clauses(alloc, bytes),
     }
 }
 
@@ -132,17 +196,17 @@ fn answer_words<L: Library>(
     library: &mut L,
 ) -> Result<Answer, Fault>
     ensures output { IfOk result (λ answer. Output (map string_bytes words.now) (L.told library.old) (L.longs library.old, L.longs library.new) answer.status answer.text.items) }
-    ensures unasked { IsNone (file_to_prove (map string_bytes words.now)) → library.new ≡ library.old }
+    ensures unasked { IsNone (job_of (map string_bytes words.now)) → library.new ≡ library.old }
     ensures missing { IsErrOf result Fault.Missing → Rose (L.misses library.old) (L.misses library.new) × IsMissing (map string_bytes words.now) (L.told library.old) }
     ensures read_fault { IsErrOf result Fault.ReadFault → Rose (L.faults library.old) (L.faults library.new) }
 {
-    let Some(file) = file_to_prove(words) else {
+    let Some(job) = job_of(words) else {
         let text = bad_words(alloc)?;
         let status = Status::BadWords;
         return Ok(Answer { status, text });
     };
-    match library.fetch(alloc, file, MAX_FILE_BYTES) {
-        Ok(bytes) => Ok(prove(alloc, &bytes)?),
+    match library.fetch(alloc, job.file(), MAX_FILE_BYTES) {
+        Ok(bytes) => Ok(do_job(alloc, job, &bytes)?),
         Err(FetchFault::TooLong) => {
             let text = too_long(alloc, 1)?;
             let status = Status::BadInput;
@@ -156,9 +220,10 @@ fn answer_words<L: Library>(
 
 /// Does the job that the words ask for, with one worker. It always returns.
 ///
-/// The job is `prove FILE`, over clauses whose predicates have no arguments. Levels 0 to 30 are searched in
-/// order for closed connection tableaux of the class `plain` with a negative start clause; level d is the
-/// search of those of depth at most d, with at most 1,000,000 attempts. Nothing is written on `Missing`,
+/// The jobs are `prove FILE` and `clauses FILE`. `clauses` writes the clauses of a file. `prove` takes clauses
+/// whose predicates have no arguments: levels 0 to 30 are searched in order for closed connection tableaux of
+/// the class `plain` with a negative start clause; level d is the search of those of depth at most d, with at
+/// most 1,000,000 attempts. Nothing is written on `Missing`,
 /// `ReadFault` and `NoMemory`, and a prefix of the output's text on `WriteFault`; on every other status the
 /// whole text. Want of memory alone has no cause that a clause names.
 pub fn run_alone<L: Library, S: Sink>(
@@ -168,7 +233,7 @@ pub fn run_alone<L: Library, S: Sink>(
     sink: &mut S,
 ) -> Status
     // Words that are no job fetch nothing.
-    ensures unasked { IsNone (file_to_prove (map string_bytes words.now)) → library.new ≡ library.old }
+    ensures unasked { IsNone (job_of (map string_bytes words.now)) → library.new ≡ library.old }
 
     // Each fault has its cause.
     ensures missing { result ≡ Status.Missing → Rose (L.misses library.old) (L.misses library.new) × IsMissing (map string_bytes words.now) (L.told library.old) }
@@ -179,7 +244,8 @@ pub fn run_alone<L: Library, S: Sink>(
     // its number of attempts, and only if no closed connection tableau has at most its depth. A proof is
     // printed only as such a tableau of the least depth. The depth is reached exactly where each level is
     // exhausted within the budget; the budget ends a run exactly where a level needs more attempts and no
-    // lower one has a tableau; the bytes are refused exactly where they aren't in the first form.
+    // lower one has a tableau; the bytes are refused exactly where they have an offence, by the first one,
+    // or, where they are to be proved, where a kept literal has arguments.
     ensures written { HasWritten (map string_bytes words.now) (L.told library.old) (L.longs library.old, L.longs library.new) (S.written sink.old) (S.written sink.new) result }
 {
     match answer_words(alloc, words, library) {

@@ -12,15 +12,19 @@ fn words(alloc: Global, texts: &[&str]) -> Result<Vec<String>, AllocError> {
     Ok(words)
 }
 
-/// Proves a file of these bytes, and gives the status and the text.
-fn prove(alloc: Global, bytes: &str) -> Result<(Status, String), Fail> {
+/// Does a job for a file of these bytes, and gives the status and the text.
+fn run(alloc: Global, job: &str, bytes: &str) -> Result<(Status, String), Fail> {
     let mut library = MemoryLibrary::new(alloc)?;
     library.add("e.p", bytes.as_bytes())?;
     let mut sink = MemorySink::with_room(alloc, 1_048_576)?;
-    let words = words(alloc, &["prove", "e.p"])?;
+    let words = words(alloc, &[job, "e.p"])?;
     let status = run_alone(alloc, &words, &mut library, &mut sink);
     let text = String::from_utf8(Vec::from_slice(alloc, sink.bytes())?);
     Ok((status, text.ok().ok_or("the text is ASCII")?))
+}
+
+fn prove(alloc: Global, bytes: &str) -> Result<(Status, String), Fail> {
+    run(alloc, "prove", bytes)
 }
 
 const UNIT_PROOF: &str = "% SZS status Unsatisfiable
@@ -60,7 +64,7 @@ fn nothing_to_prove(rt: HostRuntime) -> Result<(), Fail> {
 #[test]
 fn reductions(rt: HostRuntime) -> Result<(), Fail> {
     let file =
-        "cnf(c1,axiom,p | q). cnf(c2,axiom,p | ~q). cnf(c3,axiom,~p | q). cnf(c4,axiom,~p | ~q).";
+        "cnf(1,axiom,p | q). cnf(2,axiom,p | ~q). cnf(3,axiom,~p | q). cnf(4,axiom,~p | ~q).";
     let (status, text) = prove(rt.alloc(), file)?;
     assert_eq!(rt; status, Status::Done);
     assert_eq!(rt;
@@ -109,24 +113,103 @@ level 2 exhausted attempts 5
 }
 
 #[test]
-fn first_form(rt: HostRuntime) -> Result<(), Fail> {
-    let refusal = "% SZS status InputError\nnot in the first form\n";
-    for file in [
-        "cnf(a,axiom,p(a)).",
-        "cnf(a,axiom,p)",
-        "cnf(a,axiom,p | ).",
-        "cnf(a,axiom,~ ~p).",
-        "cnf(A,axiom,p).",
-        "cnfa,axiom,p).",
-        "cnf(a,axiom,p). x",
-        "cnf(a,axiom,p).\0",
+fn empty_clause(rt: HostRuntime) -> Result<(), Fail> {
+    let (status, text) = prove(rt.alloc(), "cnf(e,axiom,$false).")?;
+    assert_eq!(rt; status, Status::Done);
+    assert_eq!(rt;
+        text.as_str(),
+        "% SZS status Unsatisfiable
+level 0 proof attempts 1
+parmel 1 class plain start negative depth 0 terms 0 nodes 0
+root 0
+end
+"
+    );
+    Ok(())
+}
+
+#[test]
+fn quoted_predicates(rt: HostRuntime) -> Result<(), Fail> {
+    let (status, text) = prove(rt.alloc(), "cnf(a,axiom,'It\\'s'). cnf(b,axiom,~'It\\'s').")?;
+    let want = format!(in rt.alloc();
+        "{UNIT_PROOF}1\n1 - 'It\\'s' extend 0\n2 + 'It\\'s' close 1\nend\n"
+    )?;
+    assert_eq!(rt; status, Status::Done);
+    assert_eq!(rt; text.as_str(), want.as_str());
+    Ok(())
+}
+
+#[test]
+fn refusals(rt: HostRuntime) -> Result<(), Fail> {
+    for (file, line) in [
+        ("cnf(a,axiom,'p", "line 1 column 13 UnclosedQuote"),
+        ("cnf(a,axiom,p", "line 1 column 14 EndInItem"),
+        ("cnf(a,axiom,X = Y).", "line 1 column 15 Equality"),
+        ("include('x').", "line 1 column 1 Include"),
+        ("cnf(a,axiom,p(a)).", "arguments are not built"),
     ] {
         let (status, text) = prove(rt.alloc(), file)?;
+        let want = format!(in rt.alloc(); "% SZS status InputError\n{line}\n")?;
         assert_eq!(rt; status, Status::BadInput, "at {file:?}");
-        assert_eq!(rt; text.as_str(), refusal, "at {file:?}");
+        assert_eq!(rt; text.as_str(), want.as_str(), "at {file:?}");
     }
-    let (status, _) = prove(rt.alloc(), " cnf\t(\ncnf,\rcnf , ~\x0bcnf|cnf)\x0c. ")?;
-    assert_eq!(rt; status, Status::DepthReached);
+    Ok(())
+}
+
+// The second item has a literal that always holds, so nothing of it counts: it has arguments too.
+#[test]
+fn dropped_clauses(rt: HostRuntime) -> Result<(), Fail> {
+    let file = "cnf(a,axiom,p). cnf(t,axiom,q(a) | $true). cnf(b,axiom,~p).";
+    let (status, text) = prove(rt.alloc(), file)?;
+    let want = format!(in rt.alloc(); "{UNIT_PROOF}1\n1 - p extend 0\n2 + p close 1\nend\n")?;
+    assert_eq!(rt; status, Status::Done);
+    assert_eq!(rt; text.as_str(), want.as_str());
+    Ok(())
+}
+
+#[test]
+fn clauses_are_written(rt: HostRuntime) -> Result<(), Fail> {
+    for (file, status, want) in [
+        (
+            "cnf(7, axiom, (p(Y,'x',Z) | $false | ~ 'Q r'(Z))). cnf(t,axiom,p | $true).",
+            Status::Done,
+            "cnf(7,axiom,(p(X0,x,X1) | ~'Q r'(X1))).\n",
+        ),
+        ("cnf(t,axiom,~ $false).", Status::Done, ""),
+        (
+            "cnf(a,axiom,p).\n,",
+            Status::BadInput,
+            "% SZS status InputError\nline 2 column 1 Unexpected\n",
+        ),
+    ] {
+        let (found, text) = run(rt.alloc(), "clauses", file)?;
+        assert_eq!(rt; found, status, "at {file:?}");
+        assert_eq!(rt; text.as_str(), want, "at {file:?}");
+    }
+    Ok(())
+}
+
+#[test]
+fn file_over_its_limit(rt: HostRuntime) -> Result<(), Fail> {
+    let mut blanks = Vec::new(rt.alloc());
+    blanks.resize(16_777_217, b' ')?;
+    for (length, status, want) in [
+        (
+            16_777_217,
+            Status::BadInput,
+            "% SZS status InputError\nfile 1 TooLong\n",
+        ),
+        (16_777_216, Status::Done, ""),
+    ] {
+        blanks.truncate(length);
+        let mut library = MemoryLibrary::new(rt.alloc())?;
+        library.add("e.p", &blanks)?;
+        let mut sink = MemorySink::with_room(rt.alloc(), 100)?;
+        let words = words(rt.alloc(), &["clauses", "e.p"])?;
+        let found = run_alone(rt.alloc(), &words, &mut library, &mut sink);
+        assert_eq!(rt; found, status);
+        assert_eq!(rt; sink.bytes(), want.as_bytes());
+    }
     Ok(())
 }
 
@@ -155,12 +238,13 @@ fn faults(rt: HostRuntime) -> Result<(), Fail> {
 fn bad_words(rt: HostRuntime) -> Result<(), Fail> {
     let alloc = rt.alloc();
     let none: &[&str] = &[];
-    let jobs: [&[&str]; 5] = [
+    let jobs: [&[&str]; 6] = [
         none,
         &["prove"],
         &["prove", "a", "b"],
         &["prove", "-"],
         &["proof", "a"],
+        &["clauses", "-p"],
     ];
     for job in jobs {
         let words = words(alloc, job)?;

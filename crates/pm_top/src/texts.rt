@@ -1,8 +1,9 @@
 //! The texts that a run prints.
 ghost use Rattle.std.specs.Prelude.{◌≡◌, ◌++◌, IfOk, OnOk, decimal};
-ghost use Rattle.pm_top.specs.Text.{level_line, level_lines, gave_up, resource_out, bad_words, not_in_the_first_form, too_long};
+ghost use Rattle.pm_top.specs.Text.{level_line, level_lines, gave_up, resource_out, bad_words, input_error, arguments_not_built, too_long};
 
 use itoa::Buffer;
+use pm_cnf::{CnfKind, Place};
 use std::alloc::{AllocError, Global};
 
 /// Appends a number in decimal digits.
@@ -63,11 +64,25 @@ pub fn bad_words(alloc: Global) -> Result<Vec<u8>, AllocError>
     Vec::from_slice(alloc, b"parmel: bad words\n")
 }
 
-/// The text for a clause file that isn't in the first form.
-pub fn not_first_form(alloc: Global) -> Result<Vec<u8>, AllocError>
-    ensures { IfOk result (λ text. text.items ≡ not_in_the_first_form) }
+/// The text for a clause file with a first offence of this kind at this place.
+pub fn input_error(alloc: Global, place: Place, kind: CnfKind) -> Result<Vec<u8>, AllocError>
+    ensures { IfOk result (λ text. text.items ≡ input_error place.line place.column kind) }
 {
-    Vec::from_slice(alloc, b"% SZS status InputError\nnot in the first form\n")
+    let mut text = Vec::from_slice(alloc, b"% SZS status InputError\nline ")?;
+    push_number(&mut text, u64::from(place.line))?;
+    text.extend_from_slice(b" column ")?;
+    push_number(&mut text, u64::from(place.column))?;
+    text.push(b' ')?;
+    text.extend_from_slice(kind.word().as_bytes())?;
+    text.push(b'\n')?;
+    Ok(text)
+}
+
+/// The text for clauses with arguments, which the search doesn't take yet.
+pub fn arguments_not_built(alloc: Global) -> Result<Vec<u8>, AllocError>
+    ensures { IfOk result (λ text. text.items ≡ arguments_not_built) }
+{
+    Vec::from_slice(alloc, b"% SZS status InputError\narguments are not built\n")
 }
 
 /// The text for a file over its limit; `file` is its place among the files of the words, from 1 on.

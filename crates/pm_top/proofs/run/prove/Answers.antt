@@ -1,7 +1,13 @@
-use Rattle.pm_top.proofs.Searches.{problem_bare}
+use Rattle.std.proofs.Common.{◌≡◌, ℕ, List, subst}
+use Rattle.std.proofs.lemmas.Result.{IfOk-weaker}
+use Rattle.pm_cnf.specs.declared.limits.Limits.{Limits}
+use Rattle.pm_cnf.specs.Refusals.{Refuses}
+use Rattle.pm_top.specs.Run.{EndsProof}
+use Rattle.pm_top.proofs.Runs.{refused_proof}
 use Rattle.pm_top.proofs.run.prove.Goals as goal
 
-pub search-requires : goal.search-requires
-search-requires c =
-    let read = c.in-Ok.ensures.problem in
-    problem_bare read.0 c.in-Ok.problem read.2
+pub returns-in-Err : goal.returns-in-Err
+returns-in-Err c =
+    let refuses = subst (λ (limits : Limits). Refuses limits c.args.bytes.now c.in-Err.error) c.standard.ensures c.in-Err.ensures.refused in
+    IfOk-weaker c.refuse.result _ (λ answer. EndsProof c.args.bytes.now answer.status answer.text.items)
+    (λ answer h. refused_proof c.args.bytes.now answer.text.items answer.status (h c.args.bytes.now refuses)) c.refuse.ensures

@@ -1,0 +1,5 @@
+use Rattle.pm_cnf.proofs.Determined.{offence_is_determined}
+use Rattle.pm_cnf.proofs.laws.offence_is_determined.Goals as goal
+
+pub returns : goal.returns
+returns c = offence_is_determined

@@ -1,0 +1,17 @@
+pub mod Lexemes
+pub mod Grammar
+pub mod Offences
+pub mod Machine
+pub mod Meaning
+pub mod View
+pub mod Draft
+pub mod Parsed
+pub mod Readable
+pub mod Parts
+pub mod Text
+pub mod Pending
+pub mod Laws
+pub mod Scan
+pub mod Refusals
+pub mod Words
+pub mod Progress

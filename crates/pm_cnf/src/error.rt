@@ -1,0 +1,106 @@
+//! Offences of clause files.
+ghost use Rattle.std.specs.Prelude.{◌≡◌};
+ghost use Rattle.pm_cnf.specs.Words.{kind_word};
+
+use std::alloc::{AllocError, AllocFailed};
+use std::fmt;
+use thiserror::Error;
+
+/// A place in a file: its line and its column in bytes, both counted from 1. Only LF ends a line.
+#[derive(Clone, Copy, Debug, PartialEq, Eq)]
+pub struct Place {
+    pub line: u32,
+    pub column: u32,
+}
+
+/// What is wrong at a place. Of several kinds at one place the first in the order of
+/// docs/FORMAT.md counts.
+#[derive(Clone, Copy, Debug, PartialEq, Eq)]
+pub enum CnfKind {
+    BadByte,
+    BadToken,
+    UnclosedComment,
+    UnclosedQuote,
+    Unexpected,
+    EndInItem,
+    NotCnf,
+    Include,
+    Equality,
+    Number,
+    DistinctObject,
+    TooManyClauses,
+    TooManyLiterals,
+    TooManyVariables,
+    ArityTooLarge,
+    TooDeep,
+}
+
+impl CnfKind {
+    /// The kind's name.
+    pub fn word(&self) -> &str
+        ensures { result.now ≡ kind_word self.now }
+    {
+        match self {
+            CnfKind::BadByte => "BadByte",
+            CnfKind::BadToken => "BadToken",
+            CnfKind::UnclosedComment => "UnclosedComment",
+            CnfKind::UnclosedQuote => "UnclosedQuote",
+            CnfKind::Unexpected => "Unexpected",
+            CnfKind::EndInItem => "EndInItem",
+            CnfKind::NotCnf => "NotCnf",
+            CnfKind::Include => "Include",
+            CnfKind::Equality => "Equality",
+            CnfKind::Number => "Number",
+            CnfKind::DistinctObject => "DistinctObject",
+            CnfKind::TooManyClauses => "TooManyClauses",
+            CnfKind::TooManyLiterals => "TooManyLiterals",
+            CnfKind::TooManyVariables => "TooManyVariables",
+            CnfKind::ArityTooLarge => "ArityTooLarge",
+            CnfKind::TooDeep => "TooDeep",
+        }
+    }
+}
+
+impl fmt::Display for Place {
+    fn fmt<W: fmt::Write>(&self, f: &mut fmt::Formatter<W>) -> Result<(), fmt::Error> {
+        write!(f, "line {} column {}", self.line, self.column)
+    }
+}
+
+impl fmt::Display for CnfKind {
+    fn fmt<W: fmt::Write>(&self, f: &mut fmt::Formatter<W>) -> Result<(), fmt::Error> {
+        f.write_str(self.word())
+    }
+}
+
+/// Why a file isn't read.
+#[derive(Clone, Copy, Debug, PartialEq, Eq, Error)]
+pub enum CnfError {
+    /// The first offence of the file, and its place.
+    #[error("{place} {kind}")]
+    At { place: Place, kind: CnfKind },
+    #[error("out of memory")]
+    Memory,
+}
+
+impl From<AllocError> for CnfError {
+    ghost use Rattle.std.specs.Prelude.{◌≡◌};
+    ghost use Rattle.pm_cnf.specs.declared.error.CnfError.TheVariants.{Memory};
+
+    ghost from_gives = { λ _ e. e ≡ Memory };
+
+    fn from(_error: AllocError) -> CnfError {
+        CnfError::Memory
+    }
+}
+
+impl<T: Drop> From<AllocFailed<T>> for CnfError {
+    ghost use Rattle.std.specs.Prelude.{◌≡◌};
+    ghost use Rattle.pm_cnf.specs.declared.error.CnfError.TheVariants.{Memory};
+
+    ghost from_gives = { λ _ e. e ≡ Memory };
+
+    fn from(_error: AllocFailed<T>) -> CnfError {
+        CnfError::Memory
+    }
+}

@@ -1,0 +1,3 @@
+% equality is not in the profile
+cnf(a,axiom,
+    ( p | X = Y )).
