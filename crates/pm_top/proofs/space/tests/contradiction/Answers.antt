@@ -8,7 +8,7 @@ use Rattle.pm_logic.specs.Term.{Term, tree_at}
 use Rattle.pm_logic.specs.Problem as spec
 use Rattle.pm_logic.specs.Problem.{Symbol, Numbers, HasShape, IsTermOver, IsLiteralOver, IsClauseOver, IsPrintable, IsValid}
 use Rattle.pm_logic.specs.View.{HasRows, literal_of, clause_of}
-use Rattle.pm_top.specs.Drawn.{IsBare, HasNoArguments}
+use Rattle.pm_top.specs.Arguments.{IsBare, HasNoArguments}
 use Rattle.pm_top.proofs.space.tests.contradiction.Goals as goal
 
 -- the clause of one literal, the symbol 0 with no arguments
