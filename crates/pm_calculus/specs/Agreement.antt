@@ -38,7 +38,8 @@ AlternativeAgrees level tableau state choice =
     (λ step. Agrees (after_step level.problem.clauses state step) tableau)
 
 -- the least alternative that agrees with the tree
-pub record IsLeastAlternative (level : Level) (tableau : Tableau) (state : State) (choice : ℕ) : Type 0 where
+pub record IsLeastAlternative (level : Level) (tableau : Tableau) (state : State)
+    (choice : ℕ) : Type 0 where
   pub agrees : AlternativeAgrees level tableau state choice
   pub least : (other : ℕ) → other < choice → ¬ AlternativeAgrees level tableau state other
 
@@ -55,4 +56,5 @@ AreLeast level tableau (Some state) (choice ∷ choices) =
 -- Only extensions agree with an inner node, and a leaf that no extension closed is closed by the least reduction that
 -- agrees.
 abbrev pub IsLeastList : Level → Tableau → List ℕ → Type 0
-IsLeastList level tableau choices = (0 < length choices) × AreLeast level tableau (Some empty) choices
+IsLeastList level tableau choices =
+    (0 < length choices) × AreLeast level tableau (Some empty) choices

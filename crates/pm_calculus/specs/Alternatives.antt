@@ -15,7 +15,8 @@ reductions leaf = map reduce (range_with_len 1 (depth_of leaf - 1))
 -- the literal has this face
 abbrev pub has_face : Face → Literal → Bool
 has_face face literal =
-    cond face.positive literal.positive (not literal.positive) && (face.predicate == literal.predicate)
+    cond face.positive literal.positive (not literal.positive)
+    && (face.predicate == literal.predicate)
 
 -- the other sign, the same predicate
 abbrev pub opposite : Face → Face
@@ -70,7 +71,8 @@ alternatives level (rooted root children) =
 abbrev pub after_choice : Level → Option State → ℕ → Option State
 after_choice level None choice = None
 after_choice level (Some state) choice =
-    option_map (after_step level.problem.clauses state) (slice_get (alternatives level state) choice)
+    option_map (after_step level.problem.clauses state)
+    (slice_get (alternatives level state) choice)
 
 -- the state after these choices, if each number is an alternative of its place
 abbrev pub state_after : Level → List ℕ → Option State

@@ -98,7 +98,8 @@ IsLabellingOf level choices tableau =
 
 -- At some level the choices build the tableau's tree with its clause indices, leave no leaf unclosed, and
 -- close each leaf by an ancestor that is complementary to it in the tableau. The class plays no part.
-pub record Follows (problem : Problem) (rule : Start) (choices : List ℕ) (tableau : Tableau) : Type 0 where
+pub record Follows (problem : Problem) (rule : Start) (choices : List ℕ)
+    (tableau : Tableau) : Type 0 where
   pub kind : BoundKind
   pub bound : ℕ
   pub state : State

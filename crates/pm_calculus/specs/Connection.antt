@@ -19,7 +19,8 @@ literals_on (more_nodes node nodes) = literal_on node ∷ literals_on nodes
 
 -- the children are an instance of the clause of this index
 abbrev pub IsFamily : List Clause → ℕ → Nodes → Type 0
-IsFamily clauses clause children = IsSomeAnd (slice_get clauses clause) (λ c. IsInstance c (literals_on children))
+IsFamily clauses clause children =
+    IsSomeAnd (slice_get clauses clause) (λ c. IsInstance c (literals_on children))
 
 -- each inner node's children are an instance of its clause
 abbrev mutual
@@ -30,11 +31,13 @@ abbrev mutual
 
   pub HaveFamilies : List Clause → Nodes → Type 0
   HaveFamilies clauses no_nodes = ⊤
-  HaveFamilies clauses (more_nodes node nodes) = HasFamilies clauses node × HaveFamilies clauses nodes
+  HaveFamilies clauses (more_nodes node nodes) =
+      HasFamilies clauses node × HaveFamilies clauses nodes
 
 -- a tableau over these clauses: each family, the root's too, is an instance of its clause
 abbrev pub IsOver : List Clause → Tableau → Type 0
-IsOver clauses tableau = IsFamily clauses tableau.root tableau.children × HaveFamilies clauses tableau.children
+IsOver clauses tableau =
+    IsFamily clauses tableau.root tableau.children × HaveFamilies clauses tableau.children
 
 -- Each leaf has a complementary ancestor. The literals above a node are those of its ancestors, the
 -- one at depth 1 first.

@@ -48,12 +48,24 @@ problem_of clauses = record { symbols = []; terms = []; clauses = clauses }
 -- a level of these clauses that starts with a negative one and bounds the depth
 abbrev pub level : List Clause → Class → ℕ → Level
 level clauses class bound =
-    record { problem = problem_of clauses; class = class; start = Negative; kind = Depth; bound = bound }
+    record {
+      problem = problem_of clauses;
+      class = class;
+      start = Negative;
+      kind = Depth;
+      bound = bound;
+    }
 
 -- the same, with a bound on the number of clause instances
 abbrev pub counted_level : List Clause → ℕ → Level
 counted_level clauses bound =
-    record { problem = problem_of clauses; class = Plain; start = Negative; kind = Inferences; bound = bound }
+    record {
+      problem = problem_of clauses;
+      class = Plain;
+      start = Negative;
+      kind = Inferences;
+      bound = bound;
+    }
 
 -- p(a); ~p(X) | p(f(X)); ~p(f(f(a)))
 abbrev pub steps : List Clause
@@ -90,7 +102,8 @@ tautology =
 -- a leaf counts for regularity, also one that isn't closed yet: it would have the literal of its parent
 abbrev pub LeafExample : Type 0
 LeafExample =
-    IsReached (level tautology Plain 2) (0 ∷ 0 ∷ []) × (¬ IsReached (level tautology Regular 2) (0 ∷ 0 ∷ []))
+    IsReached (level tautology Plain 2) (0 ∷ 0 ∷ [])
+    × (¬ IsReached (level tautology Regular 2) (0 ∷ 0 ∷ []))
 
 -- p(Y) | ~p(Z); p(a); ~p(X) | ~t(X); t(a) | ~u; u
 abbrev pub shared : List Clause
@@ -162,11 +175,13 @@ circle =
 -- a literal is compared with all above it, and not with its parent alone: ~p stands below ~q below ~p
 abbrev pub AncestorExample : Type 0
 AncestorExample =
-    IsReached (level circle Plain 3) (0 ∷ 0 ∷ 1 ∷ []) × (¬ IsReached (level circle Regular 3) (0 ∷ 0 ∷ 1 ∷ []))
+    IsReached (level circle Plain 3) (0 ∷ 0 ∷ 1 ∷ [])
+    × (¬ IsReached (level circle Regular 3) (0 ∷ 0 ∷ 1 ∷ []))
 
 -- q | p; p; ~p
 abbrev pub later : List Clause
-later = ground (holds q [] ∷ holds p [] ∷ []) ∷ ground (holds p [] ∷ []) ∷ ground (fails p [] ∷ []) ∷ []
+later =
+    ground (holds q [] ∷ holds p [] ∷ []) ∷ ground (holds p [] ∷ []) ∷ ground (fails p [] ∷ []) ∷ []
 
 -- extensions are numbered by clause and then by literal: the second one is by the clause p
 abbrev pub ExtensionOrderExample : Type 0
@@ -227,7 +242,8 @@ StartExample =
 
 -- p; q; ~p | ~q
 abbrev pub fork : List Clause
-fork = ground (holds p [] ∷ []) ∷ ground (holds q [] ∷ []) ∷ ground (fails p [] ∷ fails q [] ∷ []) ∷ []
+fork =
+    ground (holds p [] ∷ []) ∷ ground (holds q [] ∷ []) ∷ ground (fails p [] ∷ fails q [] ∷ []) ∷ []
 
 -- the root counts as a clause instance, a leaf doesn't; the empty clause alone has one instance and depth 0
 abbrev pub InstancesExample : Type 0

@@ -53,7 +53,8 @@ GeneralTableauxAreUnique =
 abbrev pub TableauxFollowCompleteLists : Type 0
 TableauxFollowCompleteLists =
     (level : Level) (tableau : Tableau) → IsInClass level tableau
-    → (choices : List ℕ) × IsComplete level choices × Follows level.problem level.start choices tableau
+    → (choices : List ℕ) × IsComplete level choices
+    × Follows level.problem level.start choices tableau
 
 -- a list that a tableau of the class follows is complete at the level
 abbrev pub FollowedListsAreComplete : Type 0
@@ -65,7 +66,8 @@ FollowedListsAreComplete =
 abbrev pub ListsAndTableauxAgree : Type 0
 ListsAndTableauxAgree =
     (level : Level)
-    → ((choices : List ℕ) × IsComplete level choices) ↔ ((tableau : Tableau) × IsInClass level tableau)
+    → ((choices : List ℕ) × IsComplete level choices)
+    ↔ ((tableau : Tableau) × IsInClass level tableau)
 
 -- an instance of an instance is an instance: of a tableau, and of a clause whose variables are its own
 abbrev pub InstancesCompose : Type 0
@@ -121,7 +123,8 @@ abbrev pub StatesAgree : Type 0
 StatesAgree =
     (level other : Level) (choices : List ℕ) (state second : State)
     → level.problem ≡ other.problem → level.start ≡ other.start
-    → state_after level choices ≡ Some state → state_after other choices ≡ Some second → state ≡ second
+    → state_after level choices ≡ Some state → state_after other choices ≡ Some second
+    → state ≡ second
 
 -- each labelling of what a complete list builds follows the list
 abbrev pub LabellingsFollow : Type 0
@@ -146,7 +149,8 @@ LeastListsAreUnique =
 abbrev pub GeneralTableauxAreOverSymbols : Type 0
 GeneralTableauxAreOverSymbols =
     (level : Level) (choices : List ℕ) (tableau : Tableau)
-    → IsValid level.problem → IsGeneral level choices tableau → IsOverSymbols level.problem.symbols tableau
+    → IsValid level.problem → IsGeneral level choices tableau
+    → IsOverSymbols level.problem.symbols tableau
 
 -- of two complementary literals exactly one is true
 abbrev pub ComplementaryLiteralsDiffer : Type 0

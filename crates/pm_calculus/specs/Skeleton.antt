@@ -74,7 +74,8 @@ abbrev mutual
   pub selected_below : List Face → Skeleton → Option Subgoal
   selected_below above (unclosed face) = Some (record { above = above; face = face })
   selected_below above (closed face ancestor) = None
-  selected_below above (extended face clause children) = selected_among (above ++ face ∷ []) children
+  selected_below above (extended face clause children) =
+      selected_among (above ++ face ∷ []) children
 
   pub selected_among : List Face → Skeletons → Option Subgoal
   selected_among above no_skeletons = None

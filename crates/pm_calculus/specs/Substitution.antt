@@ -18,7 +18,11 @@ abbrev mutual
 -- the same in each term of a literal
 abbrev pub put_in_literal : List Term → Literal → Literal
 put_in_literal terms literal =
-    record { positive = literal.positive; predicate = literal.predicate; args = map (put terms) literal.args }
+    record {
+      positive = literal.positive;
+      predicate = literal.predicate;
+      args = map (put terms) literal.args;
+    }
 
 -- the literals are the clause's, with one list of terms put for the clause's variables; the terms may
 -- hold variables
@@ -36,7 +40,8 @@ abbrev mutual
 
   pub each_among : (Literal → Literal) → Nodes → Nodes
   each_among change no_nodes = no_nodes
-  each_among change (more_nodes node nodes) = more_nodes (each_below change node) (each_among change nodes)
+  each_among change (more_nodes node nodes) =
+      more_nodes (each_below change node) (each_among change nodes)
 
 abbrev pub each_in_tableau : (Literal → Literal) → Tableau → Tableau
 each_in_tableau change tableau =

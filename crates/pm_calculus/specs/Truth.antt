@@ -17,7 +17,9 @@ atom_of literal = record { predicate = literal.predicate; args = literal.args }
 -- a truth assignment is the list of the atoms that are true; a positive literal is true where its atom
 -- is, and a negative one where it isn't
 abbrev pub IsTrueIn : List Atom → Literal → Type 0
-IsTrueIn atoms literal = MatchBool literal.positive (Contains atoms (atom_of literal)) (¬ Contains atoms (atom_of literal))
+IsTrueIn atoms literal =
+    MatchBool literal.positive (Contains atoms (atom_of literal))
+    (¬ Contains atoms (atom_of literal))
 
 -- a clause instance is false where none of its literals is true
 abbrev pub IsFalseIn : List Atom → List Literal → Type 0
@@ -37,7 +39,8 @@ abbrev pub families : Tableau → List (List Literal)
 families tableau = literals_on tableau.children ∷ families_among tableau.children
 
 -- one of the tableau's families is an instance of one of the clauses, and is false
-pub record HasFalseInstance (clauses : List Clause) (tableau : Tableau) (atoms : List Atom) : Type 0 where
+pub record HasFalseInstance (clauses : List Clause) (tableau : Tableau)
+    (atoms : List Atom) : Type 0 where
   pub clause : Clause
   pub given : Contains clauses clause
   pub literals : List Literal

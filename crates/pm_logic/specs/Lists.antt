@@ -8,7 +8,8 @@ AreDistinct xs = (i j : ℕ) → i < length xs → j < length xs → slice_get x
 -- the places of what passes the test, counted from a number on
 abbrev pub places : {A : Type 0} → (A → Bool) → ℕ → List A → List ℕ
 places test from [] = []
-places test from (x ∷ xs) = cond (test x) (from ∷ places test (from + 1) xs) (places test (from + 1) xs)
+places test from (x ∷ xs) =
+    cond (test x) (from ∷ places test (from + 1) xs) (places test (from + 1) xs)
 
 -- each of the elements in turn is there already, or becomes the last
 abbrev pub Gathers : {A : Type 0} → List A → List A → List A → Type 0

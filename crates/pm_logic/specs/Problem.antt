@@ -41,7 +41,8 @@ pub record Problem : Type 0 where
 -- a number was given to a symbol: its own where it had one, else the next
 pub record Numbers (old new : List Symbol) (symbol : Symbol) (number : ℕ) : Type 0 where
   pub stands : slice_get new number ≡ Some symbol
-  pub grows : ((new ≡ old) × Contains old symbol) ⊎ ((new ≡ old ++ symbol ∷ []) × (¬ Contains old symbol))
+  pub grows :
+      ((new ≡ old) × Contains old symbol) ⊎ ((new ≡ old ++ symbol ∷ []) × (¬ Contains old symbol))
 
 -- the symbol of this number is of this kind and takes so many arguments
 abbrev pub HasShape : List Symbol → ℕ → Kind → ℕ → Type 0
@@ -52,11 +53,13 @@ HasShape symbols number kind arity =
 abbrev mutual
   pub IsTermOver : List Symbol → ℕ → Term → Type 0
   IsTermOver symbols vars (var n) = n < vars
-  IsTermOver symbols vars (app f ts) = HasShape symbols f Function (length (list_of ts)) × AreTermsOver symbols vars ts
+  IsTermOver symbols vars (app f ts) =
+      HasShape symbols f Function (length (list_of ts)) × AreTermsOver symbols vars ts
 
   pub AreTermsOver : List Symbol → ℕ → Terms → Type 0
   AreTermsOver symbols vars no_terms = Unit {0}
-  AreTermsOver symbols vars (more_terms t ts) = IsTermOver symbols vars t × AreTermsOver symbols vars ts
+  AreTermsOver symbols vars (more_terms t ts) =
+      IsTermOver symbols vars t × AreTermsOver symbols vars ts
 
 -- a literal's symbol is a predicate, or equality
 pub record IsLiteralOver (symbols : List Symbol) (vars : ℕ) (literal : Literal) : Type 0 where

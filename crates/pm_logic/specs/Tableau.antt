@@ -67,12 +67,16 @@ pub record Entry : Type 0 where
 -- the nodes in pre-order, the first of them at this depth
 abbrev mutual
   pub preorder_of : ℕ → Node → List Entry
-  preorder_of at_depth (leaf literal) = record { depth = at_depth; literal = literal; kind = Leaf } ∷ []
-  preorder_of at_depth (inner literal clause children) = record { depth = at_depth; literal = literal; kind = Inner clause } ∷ preorder_among (at_depth + 1) children
+  preorder_of at_depth (leaf literal) =
+      record { depth = at_depth; literal = literal; kind = Leaf } ∷ []
+  preorder_of at_depth (inner literal clause children) =
+      record { depth = at_depth; literal = literal; kind = Inner clause }
+      ∷ preorder_among (at_depth + 1) children
 
   pub preorder_among : ℕ → Nodes → List Entry
   preorder_among at_depth no_nodes = []
-  preorder_among at_depth (more_nodes node nodes) = preorder_of at_depth node ++ preorder_among at_depth nodes
+  preorder_among at_depth (more_nodes node nodes) =
+      preorder_of at_depth node ++ preorder_among at_depth nodes
 
 abbrev pub preorder : Tableau → List Entry
 preorder tableau = preorder_among 1 tableau.children
@@ -100,12 +104,15 @@ abbrev mutual
   pub with_last : ℕ → Node → Nodes → Nodes
   with_last level node no_nodes = more_nodes node no_nodes
   with_last zero node (more_nodes first no_nodes) = more_nodes first (more_nodes node no_nodes)
-  with_last (suc level) node (more_nodes first no_nodes) = more_nodes (with_last_child level node first) no_nodes
-  with_last level node (more_nodes first (more_nodes second others)) = more_nodes first (with_last level node (more_nodes second others))
+  with_last (suc level) node (more_nodes first no_nodes) =
+      more_nodes (with_last_child level node first) no_nodes
+  with_last level node (more_nodes first (more_nodes second others)) =
+      more_nodes first (with_last level node (more_nodes second others))
 
   pub with_last_child : ℕ → Node → Node → Node
   with_last_child level node (leaf literal) = leaf literal
-  with_last_child level node (inner literal clause children) = inner literal clause (with_last level node children)
+  with_last_child level node (inner literal clause children) =
+      inner literal clause (with_last level node children)
 
 -- the forest with one more node, the last in pre-order, at this entry's depth
 abbrev pub with_entry : Nodes → Entry → Nodes

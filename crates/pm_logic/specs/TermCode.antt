@@ -31,18 +31,23 @@ abbrev pub after_marks : List Mark → List Terms → List Terms
 after_marks [] stack = stack
 after_marks (m ∷ ms) stack = after_marks ms (after_mark m stack)
 
-after_marks-append : (ms ns : List Mark) (stack : List Terms) → after_marks (ms ++ ns) stack ≡ after_marks ns (after_marks ms stack)
+after_marks-append :
+    (ms ns : List Mark) (stack : List Terms)
+    → after_marks (ms ++ ns) stack ≡ after_marks ns (after_marks ms stack)
 after_marks-append [] ns stack = refl
 after_marks-append (m ∷ ms) ns stack = after_marks-append ms ns (after_mark m stack)
 
 mutual
-  after_marks-marks : (t : Term) (us : Terms) (more : List Terms) → after_marks (marks t) (us ∷ more) ≡ more_terms t us ∷ more
+  after_marks-marks :
+      (t : Term) (us : Terms) (more : List Terms)
+      → after_marks (marks t) (us ∷ more) ≡ more_terms t us ∷ more
   after_marks-marks (var n) us more = refl
   after_marks-marks (app f ts) us more =
       after_marks-append (marks_all ts) (inr (inl f) ∷ []) (us ∷ more)
       ∙ ap (after_marks (inr (inl f) ∷ [])) (after_marks-marks_all ts (us ∷ more))
 
-  after_marks-marks_all : (ts : Terms) (more : List Terms) → after_marks (marks_all ts) more ≡ ts ∷ more
+  after_marks-marks_all :
+      (ts : Terms) (more : List Terms) → after_marks (marks_all ts) more ≡ ts ∷ more
   after_marks-marks_all no_terms more = refl
   after_marks-marks_all (more_terms t ts) more =
       after_marks-append (marks_all ts) (marks t) more
@@ -62,4 +67,6 @@ pub read_term-marks : (t : Term) → read_term (marks t) ≡ t
 read_term-marks t = ap first_term (after_marks-marks t no_terms [])
 
 abbrev pub term_code : Coded Term
-term_code = code_by (List Mark) (coded_list (coded⊎ coded_ℕ (coded⊎ coded_ℕ coded_ℕ))) marks read_term read_term-marks
+term_code =
+    code_by (List Mark)
+    (coded_list (coded⊎ coded_ℕ (coded⊎ coded_ℕ coded_ℕ))) marks read_term read_term-marks

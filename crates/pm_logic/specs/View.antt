@@ -15,7 +15,12 @@ label_of (Word text) = problem.word (string_bytes text)
 label_of (Integer text) = problem.integer (string_bytes text)
 
 abbrev pub literal_of : List Term → Literal → problem.Literal
-literal_of terms literal = record { positive = literal.positive; predicate = literal.predicate; args = map (tree_at terms) literal.args.items }
+literal_of terms literal =
+    record {
+      positive = literal.positive;
+      predicate = literal.predicate;
+      args = map (tree_at terms) literal.args.items;
+    }
 
 abbrev pub clause_of : List Term → Clause → problem.Clause
 clause_of terms clause = record {
@@ -26,22 +31,28 @@ clause_of terms clause = record {
 }
 
 abbrev pub entry_of : List Term → Node → tableau.Entry
-entry_of terms node = record { depth = node.depth; literal = literal_of terms node.literal; kind = node.kind }
+entry_of terms node =
+    record { depth = node.depth; literal = literal_of terms node.literal; kind = node.kind }
 
 -- the literal's rows are rows of a table of so many
 abbrev pub HasRows : ℕ → Literal → Type 0
 HasRows count literal = All (λ row. row < count) literal.args.items
 
 -- the clauses' rows are those of the terms, and the problem is a valid one
-pub record IsWellFormed (symbols : List problem.Symbol) (terms : List Term) (clauses : List Clause) : Type 0 where
+pub record IsWellFormed (symbols : List problem.Symbol) (terms : List Term)
+    (clauses : List Clause) : Type 0 where
   pub rows : All (λ clause. All (HasRows (length terms)) clause.literals.items) clauses
-  pub valid : problem.IsValid (record { symbols = symbols; terms = terms; clauses = map (clause_of terms) clauses })
+  pub valid :
+      problem.IsValid
+      (record { symbols = symbols; terms = terms; clauses = map (clause_of terms) clauses })
 
 -- the tableau of nodes in pre-order
 abbrev pub tableau_of : List Term → ℕ → List Node → tableau.Tableau
-tableau_of terms root nodes = record { root = root; children = tableau.forest_of (map (entry_of terms) nodes) }
+tableau_of terms root nodes =
+    record { root = root; children = tableau.forest_of (map (entry_of terms) nodes) }
 
 -- the literals' rows are those of the terms, and the nodes are in the pre-order of their tableau
 pub record IsPreorder (terms : List Term) (nodes : List Node) : Type 0 where
   pub rows : All (λ node. HasRows (length terms) node.literal) nodes
-  pub order : (root : ℕ) → tableau.preorder (tableau_of terms root nodes) ≡ map (entry_of terms) nodes
+  pub order :
+      (root : ℕ) → tableau.preorder (tableau_of terms root nodes) ≡ map (entry_of terms) nodes

@@ -70,7 +70,11 @@ impl Model for Problem {
 
     ghost use Rattle.pm_logic.specs.View.{clause_of, IsWellFormed};
 
-    ghost view = { λ a. record { symbols = a.symbols; terms = a.terms; clauses = map (clause_of a.terms) a.clauses.items } };
+    ghost view = { λ a. record {
+      symbols = a.symbols;
+      terms = a.terms;
+      clauses = map (clause_of a.terms) a.clauses.items;
+    } };
 
     ghost invariant = { λ a. IsWellFormed a.symbols a.terms a.clauses.items };
 }
@@ -79,8 +83,10 @@ impl Problem {
     /// The problem of these clauses, whose numbers and rows are those of the symbols and terms.
     pub fn new(symbols: Symbols, terms: TermTable, clauses: Vec<Clause>) -> Problem
         requires rows { All (λ clause. All (HasRows (length terms)) clause.literals.items) clauses.items }
-        requires valid { IsValid (record { symbols = symbols; terms = terms; clauses = map (clause_of terms) clauses.items }) }
-        ensures { result ≡ record { symbols = symbols; terms = terms; clauses = map (clause_of terms) clauses.items } }
+        requires valid { IsValid
+            (record { symbols = symbols; terms = terms; clauses = map (clause_of terms) clauses.items }) }
+        ensures { result
+            ≡ record { symbols = symbols; terms = terms; clauses = map (clause_of terms) clauses.items } }
     {
         Problem {
             symbols,

@@ -64,7 +64,8 @@ impl Symbols {
     /// The symbol's number. A symbol that isn't there yet gets the next one.
     pub fn number(&mut self, text: &str, arity: u8, kind: Kind) -> Result<u32, AllocError>
         requires { length self.old < 2 ^ 32 - 1 }
-        ensures numbered { IfOk result (Numbers self.old self.new (record { text = text.now; arity = arity; kind = kind })) }
+        ensures numbered { IfOk result (Numbers self.old self.new
+            (record { text = text.now; arity = arity; kind = kind })) }
         ensures err { OnErr result (self.new ≡ self.old) }
     {
         if let Some(number) = self.find(text, arity, kind) {
@@ -84,8 +85,10 @@ impl Symbols {
 
     /// The number of the symbol of this text, arity and kind, if it is there.
     pub fn find(&self, text: &str, arity: u8, kind: Kind) -> Option<u32>
-        ensures found { IfSome result (λ number. slice_get self.now number ≡ Some (record { text = text.now; arity = arity; kind = kind })) }
-        ensures none { IfNone result (¬ Contains self.now (record { text = text.now; arity = arity; kind = kind })) }
+        ensures found { IfSome result (λ number. slice_get self.now number
+            ≡ Some (record { text = text.now; arity = arity; kind = kind })) }
+        ensures none { IfNone result
+            (¬ Contains self.now (record { text = text.now; arity = arity; kind = kind })) }
     {
         let numbers = self.by_text.get(text)?;
         for &number in numbers {
@@ -137,8 +140,12 @@ fn add_number(
     text: &str,
     number: u32,
 ) -> Result<(), AllocError>
-    ensures ok { OnOk result ((bytes : List ℕ) → numbers_of by_text.new bytes ≡ (if bytes_eq text.now bytes then numbers_of by_text.old bytes ++ number ∷ [] else numbers_of by_text.old bytes)) }
-    ensures err { OnErr result ((bytes : List ℕ) → numbers_of by_text.new bytes ≡ numbers_of by_text.old bytes) }
+    ensures ok { let before = numbers_of by_text.old in
+        OnOk result ((bytes : List ℕ)
+        → numbers_of by_text.new bytes
+        ≡ (if bytes_eq text.now bytes then before bytes ++ number ∷ [] else before bytes)) }
+    ensures err { OnErr result ((bytes : List ℕ)
+        → numbers_of by_text.new bytes ≡ numbers_of by_text.old bytes) }
 {
     if let Some(numbers) = by_text.get_mut(text) {
         numbers.push(number)?;

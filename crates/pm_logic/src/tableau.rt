@@ -72,7 +72,8 @@ impl Tableau {
         requires below_root { 1 ≤ node.depth }
         requires shallow { node.depth ≤ deepest_next (preorder self.old.tableau) }
         requires rows { HasRows (length self.old.terms) node.literal }
-        ensures nodes { OnOk result (preorder self.new.tableau ≡ preorder self.old.tableau ++ entry_of self.old.terms node ∷ []) }
+        ensures nodes { OnOk result (preorder self.new.tableau ≡ preorder self.old.tableau
+            ++ entry_of self.old.terms node ∷ []) }
         ensures root { self.new.tableau.root ≡ self.old.tableau.root }
         ensures terms { self.new.terms ≡ self.old.terms }
         ensures err { OnErr result (self.new ≡ self.old) }

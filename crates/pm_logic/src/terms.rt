@@ -112,7 +112,8 @@ impl TermTable {
     /// yet gets a new row, the last one. Where memory is wanting the table stays as it was.
     pub fn add_app(&mut self, symbol: u32, args: &[TermId]) -> Result<TermId, AllocError>
         requires { All (λ arg. arg < length self.old) args.now }
-        ensures added { IfOk result (Adds self.old self.new (app symbol (as_terms (map (tree_at self.old) args.now)))) }
+        ensures added { IfOk result (Adds self.old self.new
+            (app symbol (as_terms (map (tree_at self.old) args.now)))) }
         ensures within { IfOk result (λ id. id < length self.new) }
         ensures count { OnOk result (length self.old ≤ length self.new) }
         ensures err { OnErr result (self.new ≡ self.old) }

@@ -32,7 +32,8 @@ kind_code = code_by ℕ coded_ℕ kind_number kind_from kind_from-kind_number
 abbrev symbol_code : Coded Symbol
 symbol_code =
     code_by (List ℕ × (ℕ × Kind)) (coded× (coded_list coded_ℕ) (coded× coded_ℕ kind_code))
-    (λ s. (s.text, (s.arity, s.kind))) (λ p. record { text = p.0; arity = p.1.0; kind = p.1.1 }) (λ _. refl)
+    (λ s. (s.text, (s.arity, s.kind))) (λ p. record { text = p.0; arity = p.1.0; kind = p.1.1 })
+    (λ _. refl)
 
 abbrev label_sum : Label → List ℕ ⊎ List ℕ
 label_sum (word text) = inl text
@@ -47,18 +48,23 @@ label_from-label_sum (word text) = refl
 label_from-label_sum (integer text) = refl
 
 abbrev label_code : Coded Label
-label_code = code_by (List ℕ ⊎ List ℕ) (coded⊎ (coded_list coded_ℕ) (coded_list coded_ℕ)) label_sum label_from label_from-label_sum
+label_code =
+    code_by (List ℕ ⊎ List ℕ)
+    (coded⊎ (coded_list coded_ℕ) (coded_list coded_ℕ)) label_sum label_from label_from-label_sum
 
 abbrev clause_code : Coded Clause
 clause_code =
-    code_by (Label × (List ℕ × (ℕ × List Literal))) (coded× label_code (coded× (coded_list coded_ℕ) (coded× coded_ℕ (coded_list literal_code))))
+    code_by (Label × (List ℕ × (ℕ × List Literal)))
+    (coded× label_code (coded× (coded_list coded_ℕ) (coded× coded_ℕ (coded_list literal_code))))
     (λ c. (c.name, (c.role, (c.vars, c.literals))))
     (λ p. record { name = p.0; role = p.1.0; vars = p.1.1.0; literals = p.1.1.1 }) (λ _. refl)
 
 abbrev pub problem_code : Coded Problem
 problem_code =
-    code_by (List Symbol × (List Term × List Clause)) (coded× (coded_list symbol_code) (coded× (coded_list term_code) (coded_list clause_code)))
-    (λ p. (p.symbols, (p.terms, p.clauses))) (λ p. record { symbols = p.0; terms = p.1.0; clauses = p.1.1 }) (λ _. refl)
+    code_by (List Symbol × (List Term × List Clause))
+    (coded× (coded_list symbol_code) (coded× (coded_list term_code) (coded_list clause_code)))
+    (λ p. (p.symbols, (p.terms, p.clauses)))
+    (λ p. record { symbols = p.0; terms = p.1.0; clauses = p.1.1 }) (λ _. refl)
 
 abbrev pub tableau_code : Coded TableauWithTerms
 tableau_code =

@@ -8,4 +8,5 @@ use Rattle.pm_logic.specs.Problem.{Literal}
 abbrev pub literal_code : Coded Literal
 literal_code =
     code_by (Bool × (ℕ × List Term)) (coded× coded_bool (coded× coded_ℕ (coded_list term_code)))
-    (λ l. (l.positive, (l.predicate, l.args))) (λ p. record { positive = p.0; predicate = p.1.0; args = p.1.1 }) (λ _. refl)
+    (λ l. (l.positive, (l.predicate, l.args)))
+    (λ p. record { positive = p.0; predicate = p.1.0; args = p.1.1 }) (λ _. refl)

@@ -33,18 +33,23 @@ abbrev pub after_marks : List Mark → List Nodes → List Nodes
 after_marks [] stack = stack
 after_marks (m ∷ ms) stack = after_marks ms (after_mark m stack)
 
-after_marks-append : (ms ns : List Mark) (stack : List Nodes) → after_marks (ms ++ ns) stack ≡ after_marks ns (after_marks ms stack)
+after_marks-append :
+    (ms ns : List Mark) (stack : List Nodes)
+    → after_marks (ms ++ ns) stack ≡ after_marks ns (after_marks ms stack)
 after_marks-append [] ns stack = refl
 after_marks-append (m ∷ ms) ns stack = after_marks-append ms ns (after_mark m stack)
 
 mutual
-  after_marks-marks : (n : Node) (ms : Nodes) (more : List Nodes) → after_marks (marks n) (ms ∷ more) ≡ more_nodes n ms ∷ more
+  after_marks-marks :
+      (n : Node) (ms : Nodes) (more : List Nodes)
+      → after_marks (marks n) (ms ∷ more) ≡ more_nodes n ms ∷ more
   after_marks-marks (leaf l) ms more = refl
   after_marks-marks (inner l c ns) ms more =
       after_marks-append (marks_among ns) (inr (inl (l, c)) ∷ []) (ms ∷ more)
       ∙ ap (after_marks (inr (inl (l, c)) ∷ [])) (after_marks-marks_among ns (ms ∷ more))
 
-  after_marks-marks_among : (ns : Nodes) (more : List Nodes) → after_marks (marks_among ns) more ≡ ns ∷ more
+  after_marks-marks_among :
+      (ns : Nodes) (more : List Nodes) → after_marks (marks_among ns) more ≡ ns ∷ more
   after_marks-marks_among no_nodes more = refl
   after_marks-marks_among (more_nodes n ns) more =
       after_marks-append (marks_among ns) (marks n) more
@@ -64,5 +69,6 @@ read_nodes-marks_among ns = ap first_nodes (after_marks-marks_among ns [])
 
 abbrev pub nodes_code : Coded Nodes
 nodes_code =
-    code_by (List Mark) (coded_list (coded⊎ literal_code (coded⊎ (coded× literal_code coded_ℕ) coded_ℕ)))
+    code_by (List Mark)
+    (coded_list (coded⊎ literal_code (coded⊎ (coded× literal_code coded_ℕ) coded_ℕ)))
     marks_among read_nodes read_nodes-marks_among
