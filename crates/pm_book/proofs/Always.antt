@@ -9,7 +9,7 @@ use Rattle.pm_choice.specs.declared.Bound.TheVariants.{At, End}
 use Rattle.pm_book.specs.declared.row.RowState.{RowState}
 use Rattle.pm_book.specs.declared.row.RowState.TheVariants.{Queued, Running, Done, Dropped}
 use Rattle.pm_book.specs.declared.event.Event.{Event}
-use Rattle.pm_book.specs.Rows.{Row, State, Tile, is_queued, is_running, is_found, is_above, count_of}
+use Rattle.pm_book.specs.Rows.{Row, BookState, Tile, is_queued, is_running, is_found, is_above, count_of}
 use Rattle.pm_book.specs.Steps.{new_book, with_state, part_below, part_from, drop_above, with_best, recorded, step, replayed, cut_of, is_about}
 use Rattle.pm_book.specs.Always.{IsPlaced, HasBest, AlwaysHolds, Covers, EachReplayHolds, EachListIsInOneRow, EachEventCoversItsRow}
 use Rattle.pm_book.proofs.OrderTests.{before_is, above_more}
@@ -50,14 +50,14 @@ pub two : (P : Row → Type 0) (row other : Row) → P row → P other → All P
 two P row other holds holds' = All-cons P row (other ∷ []) holds (one P other holds')
 
 -- the rows after a change without a new best path
-pub among : (P : Row → Type 0) (book : State) (change : Change) (row : Row) (before after : List Row) → book.rows ≡ before ++ row ∷ after → All P book.rows → All P (parts_of book change row) → All P (changed_rows book change row before after)
+pub among : (P : Row → Type 0) (book : BookState) (change : Change) (row : Row) (before after : List Row) → book.rows ≡ before ++ row ∷ after → All P book.rows → All P (parts_of book change row) → All P (changed_rows book change row before after)
 among P book change row before after is all parts =
     let all' : All P (before ++ row ∷ after) = subst (λ (l : List Row). All P l) is all in
     All-append P before (parts_of book change row ++ after) (all_left P before (row ∷ after) all')
     (All-append P (parts_of book change row) after parts (all_right P (row ∷ []) after (all_right P before (row ∷ after) all')))
 
 -- with a new best path, the rows that are above it are dropped
-found_placed : (book : State) (path : List ℕ) (work : ℕ) (row : Row) (before after : List Row) → book.rows ≡ before ++ row ∷ after → TilesRound (At []) End before row after
+found_placed : (book : BookState) (path : List ℕ) (work : ℕ) (row : Row) (before after : List Row) → book.rows ≡ before ++ row ∷ after → TilesRound (At []) End before row after
     → IsAllowed book (finds path work) row → All (Placed book.best) book.rows → All (Placed (Some path)) (rows_after book (finds path work) row before after)
 found_placed book path work row before after is round may placed =
     let placed' : All (Placed book.best) (before ++ row ∷ after) = subst (λ (l : List Row). All (Placed book.best) l) is placed in
@@ -75,7 +75,7 @@ found_placed book path work row before after is round may placed =
     (λ k d less. drop_placed (Some path) (get_or after k d).number (get_or after k d).from (get_or after k d).to (get_or after k d).state
     (λ e. (before_is path (get_or after k d).from).1 (begins k d less path may.2.below)))))
 
-placed_after : (book : State) (change : Change) (row : Row) (before after : List Row) → book.rows ≡ before ++ row ∷ after → TilesRound (At []) End before row after
+placed_after : (book : BookState) (change : Change) (row : Row) (before after : List Row) → book.rows ≡ before ++ row ∷ after → TilesRound (At []) End before row after
     → IsAllowed book change row → AlwaysHolds book → All (Placed (best_after book change)) (rows_after book change row before after)
 placed_after book (starts worker) row before after is round may always =
     among (Placed book.best) book (starts worker) row before after is always.placed (one (Placed book.best) (with_state (Running worker) row) tt)
@@ -104,7 +104,7 @@ queued_is (Done work found) e = absurd cc
 queued_is Dropped e = absurd cc
 
 -- a row that an event may change wasn't found
-pub not_found : (book : State) (change : Change) (row : Row) → IsAllowed book change row → is_found row.state ≡ false
+pub not_found : (book : BookState) (change : Change) (row : Row) → IsAllowed book change row → is_found row.state ≡ false
 not_found book (starts worker) row may = queued_is row.state may
 not_found book (divides cut) row may = (running_is row.state may.0).0
 not_found book drops row may = (running_is row.state may.0).0
@@ -125,7 +125,7 @@ abbrev Stays : Change → Type 0
 Stays (finds path work) = ⊥
 Stays change = Unit {0}
 
-parts_unfound : (book : State) (change : Change) (row : Row) → Stays change → IsAllowed book change row → All Unfound (parts_of book change row)
+parts_unfound : (book : BookState) (change : Change) (row : Row) → Stays change → IsAllowed book change row → All Unfound (parts_of book change row)
 parts_unfound book (starts worker) row stays may = one Unfound (with_state (Running worker) row) refl
 parts_unfound book (divides cut) row stays may =
     two Unfound (part_below cut row.state row) (drop_above book.best (part_from cut (length book.rows) row)) (running_is row.state may.0).0 (drop_unfound book.best (length book.rows) cut row.to)
@@ -135,7 +135,7 @@ parts_unfound book (gives_back cut work) row stays may = two Unfound (part_below
 parts_unfound book (closes work) row stays may = one Unfound (with_state (Done work false) row) refl
 parts_unfound book (finds path work) row stays may = absurd stays
 
-best_stays : (book : State) (change : Change) (row : Row) (before after : List Row) → Stays change → book.rows ≡ before ++ row ∷ after → IsAllowed book change row
+best_stays : (book : BookState) (change : Change) (row : Row) (before after : List Row) → Stays change → book.rows ≡ before ++ row ∷ after → IsAllowed book change row
     → (best : Option (List ℕ)) → HasBest best book.rows → HasBest best (changed_rows book change row before after)
 best_stays book change row before after stays is may None has = among Unfound book change row before after is has (parts_unfound book change row stays may)
 best_stays book change row before after stays is may (Some path) has =
@@ -146,7 +146,7 @@ best_stays book change row before after stays is may (Some path) has =
       | inr right ↦ (has.0, Contains-append_right before (parts_of book change row ++ after) has.0 (Contains-append_right (parts_of book change row) after has.0 right), has.2)
     ]
 
-has_best_after : (book : State) (change : Change) (row : Row) (before after : List Row) → book.rows ≡ before ++ row ∷ after → IsAllowed book change row → AlwaysHolds book
+has_best_after : (book : BookState) (change : Change) (row : Row) (before after : List Row) → book.rows ≡ before ++ row ∷ after → IsAllowed book change row → AlwaysHolds book
     → HasBest (best_after book change) (rows_after book change row before after)
 has_best_after book (starts worker) row before after is may always = best_stays book (starts worker) row before after tt is may book.best always.best
 has_best_after book (divides cut) row before after is may always = best_stays book (divides cut) row before after tt is may book.best always.best
@@ -160,7 +160,7 @@ has_best_after book (finds path work) row before after is may always =
     let there : Contains (map f before ++ (done ∷ map f after)) done = Contains-append_right (map f before) (done ∷ map f after) done (0, omega arith, refl) in
     (done, subst (λ (l : List Row). Contains l done) (sym (map-append f before (done ∷ after))) there, record { found = refl; within = may.2 })
 
-pub always_after : (book : State) (change : Change) (row : Row) (before after : List Row) (later : State) → book.rows ≡ before ++ row ∷ after → IsAllowed book change row → AlwaysHolds book
+pub always_after : (book : BookState) (change : Change) (row : Row) (before after : List Row) (later : BookState) → book.rows ≡ before ++ row ∷ after → IsAllowed book change row → AlwaysHolds book
     → later.rows ≡ rows_after book change row before after → later.best ≡ best_after book change → AlwaysHolds later
 always_after book change row before after later is may always rows-are best-is =
     let round = tile_round (At []) End before row after (subst (λ (l : List Row). Tile (At []) End l) is always.tiled) in
@@ -172,42 +172,34 @@ always_after book change row before after later is may always rows-are best-is =
     }
 
 -- the rows and the best path of the book after a step
-pub made_rows : (book : State) (event : Event) (cut : Option (List ℕ)) (change : Change) (row : Row) (before after : List Row)
-    → (with_best (best_of change) (recorded book event cut (changed_rows book change row before after))).rows ≡ rows_after book change row before after
-made_rows book event cut (starts worker) row before after = refl
-made_rows book event cut (divides list) row before after = refl
-made_rows book event cut drops row before after = refl
-made_rows book event cut requeues row before after = refl
-made_rows book event cut (gives_back list work) row before after = refl
-made_rows book event cut (closes work) row before after = refl
-made_rows book event cut (finds path work) row before after = refl
-
-pub made_best : (book : State) (event : Event) (cut : Option (List ℕ)) (change : Change) (row : Row) (before after : List Row)
-    → (with_best (best_of change) (recorded book event cut (changed_rows book change row before after))).best ≡ best_after book change
-made_best book event cut (starts worker) row before after = refl
-made_best book event cut (divides list) row before after = refl
-made_best book event cut drops row before after = refl
-made_best book event cut requeues row before after = refl
-made_best book event cut (gives_back list work) row before after = refl
-made_best book event cut (closes work) row before after = refl
-made_best book event cut (finds path work) row before after = refl
+made : (book : BookState) (event : Event) (cut : Option (List ℕ)) (change : Change) (row : Row) (before after : List Row)
+    → ((with_best (best_of change) (recorded book event cut (changed_rows book change row before after))).rows ≡ rows_after book change row before after)
+    × ((with_best (best_of change) (recorded book event cut (changed_rows book change row before after))).best ≡ best_after book change)
+made book event cut (starts worker) row before after = (refl, refl)
+made book event cut (divides list) row before after = (refl, refl)
+made book event cut drops row before after = (refl, refl)
+made book event cut requeues row before after = (refl, refl)
+made book event cut (gives_back list work) row before after = (refl, refl)
+made book event cut (closes work) row before after = (refl, refl)
+made book event cut (finds path work) row before after = (refl, refl)
 
 -- a step in these words
-pub record Moved (book : State) (later : State) (s : Change) (row : Row) (before after : List Row) : Type 0 where
+pub record Moved (book : BookState) (later : BookState) (s : Change) (row : Row) (before after : List Row) : Type 0 where
   pub rows_are : later.rows ≡ rows_after book s row before after
   pub best_is : later.best ≡ best_after book s
 
-pub moved : (book : State) (event : Event) (cut : Option (List ℕ)) (later : State) (s : Stepped book event cut later) → Moved book later s.changes.change s.row s.first.before s.first.after
+pub moved : (book : BookState) (event : Event) (cut : Option (List ℕ)) (later : BookState) (s : Stepped book event cut later) → Moved book later s.changes.change s.row s.first.before s.first.after
 moved book event cut later s =
     let change = s.changes.change in
     let whole : later ≡ with_best (best_of change) (recorded book event cut (changed_rows book change s.row s.first.before s.first.after)) =
     s.next_is ∙ ap (λ (l : List Row). with_best (best_of change) (recorded book event cut (s.first.before ++ (l ++ s.first.after)))) s.changes.parts_are in
+    let both = made book event cut change s.row s.first.before s.first.after in
     record {
-      rows_are = ap (λ (b : State). b.rows) whole ∙ made_rows book event cut change s.row s.first.before s.first.after;
-      best_is = ap (λ (b : State). b.best) whole ∙ made_best book event cut change s.row s.first.before s.first.after;
+      rows_are = ap (λ (b : BookState). b.rows) whole ∙ both.0;
+      best_is = ap (λ (b : BookState). b.best) whole ∙ both.1;
     }
 
-pub always_stepped : (book : State) (event : Event) (cut : Option (List ℕ)) (later : State) → AlwaysHolds book → step book event cut ≡ Some later → AlwaysHolds later
+pub always_stepped : (book : BookState) (event : Event) (cut : Option (List ℕ)) (later : BookState) → AlwaysHolds book → step book event cut ≡ Some later → AlwaysHolds later
 always_stepped book event cut later always e =
     let s = stepped book event cut later e in
     let m = moved book event cut later s in
@@ -221,7 +213,7 @@ always_new budget = record {
   best = one Unfound (record { number = 0; from = []; to = End; state = Queued }) refl;
 }
 
-abbrev IfBook : (State → Type 0) → Option State → Type 0
+abbrev IfBook : (BookState → Type 0) → Option BookState → Type 0
 IfBook P None = Unit {0}
 IfBook P (Some book) = P book
 
@@ -230,12 +222,12 @@ none_stays cuts [] = refl
 none_stays cuts (event ∷ events) = none_stays cuts events
 
 -- a fact that each step keeps holds of every replay
-pub kept_along : (P : State → Type 0) → ((book : State) (event : Event) (cut : Option (List ℕ)) (later : State) → P book → step book event cut ≡ Some later → P later)
-    → (cuts : List (List ℕ)) (events : List Event) (start : State) → P start → (book : State) → replayed cuts events (Some start) ≡ Some book → P book
+pub kept_along : (P : BookState → Type 0) → ((book : BookState) (event : Event) (cut : Option (List ℕ)) (later : BookState) → P book → step book event cut ≡ Some later → P later)
+    → (cuts : List (List ℕ)) (events : List Event) (start : BookState) → P start → (book : BookState) → replayed cuts events (Some start) ≡ Some book → P book
 kept_along P keep cuts [] start holds book e = subst (IfBook P) e holds
 kept_along P keep cuts (event ∷ events) start holds book e = by (step start event (cut_of cuts event)) refl e (λ later holds' same. kept_along P keep cuts events later holds' book same)
   where
-    by : (o : Option State) → step start event (cut_of cuts event) ≡ o → replayed cuts events o ≡ Some book → ((later : State) → P later → replayed cuts events (Some later) ≡ Some book → P book) → P book
+    by : (o : Option BookState) → step start event (cut_of cuts event) ≡ o → replayed cuts events o ≡ Some book → ((later : BookState) → P later → replayed cuts events (Some later) ≡ Some book → P book) → P book
     by None is same go = absurd (let n = none_stays cuts events in cc)
     by (Some later) is same go = go later (keep start event (cut_of cuts event) later holds is) same
 

@@ -5,28 +5,28 @@ use Rattle.std.proofs.lemmas.List.Elements.{All-nil, All-push, All-pop}
 use Rattle.pm_book.specs.declared.event.Event.{Event}
 use Rattle.pm_book.specs.declared.event.Event.TheVariants.{Took, Claimed, Split, Returned, Closed, Found}
 use Rattle.pm_book.specs.declared.tables.Tables.{Tables}
-use Rattle.pm_book.specs.Rows.{Row, State, is_above}
+use Rattle.pm_book.specs.Rows.{Row, BookState, is_above}
 use Rattle.pm_book.specs.Steps.{new_book, parts_after, new_best, with_best, recorded, step}
-use Rattle.pm_book.specs.Seen.{seen, IsSound}
+use Rattle.pm_book.specs.Inside.Seen.{seen, AreSoundTables}
 use Rattle.pm_book.specs.Answers.{is_find, NoneFound}
 use Rattle.pm_book.proofs.OrderTests.{bool_cases}
 use Rattle.pm_book.proofs.Changes.{stepped}
 use Rattle.pm_book.proofs.Always.{kept_along}
 use Rattle.pm_book.proofs.Replays.{adds}
 
-abbrev pub FindsTell : State → Type 0
+abbrev pub FindsTell : BookState → Type 0
 FindsTell book = (book.best ≡ None) ↔ NoneFound book
 
 -- An event finds no path and leaves best, or it finds one, and then there is a best.
-abbrev Tells : State → Event → Option (List ℕ) → Row → Type 0
-Tells book event cut row =
-    ((is_find event ≡ false) × (new_best book event cut row ≡ None)) ⊎ ((is_find event ≡ true) × ((later : State) → later.best ≡ book.best → (with_best (new_best book event cut row) later).best ≢ None))
+abbrev TellsOfBest : BookState → Event → Option (List ℕ) → Row → Type 0
+TellsOfBest book event cut row =
+    ((is_find event ≡ false) × (new_best book event cut row ≡ None)) ⊎ ((is_find event ≡ true) × ((later : BookState) → later.best ≡ book.best → (with_best (new_best book event cut row) later).best ≢ None))
 
 above_there : (best : Option (List ℕ)) (from : List ℕ) → is_above best from ≡ true → best ≢ None
 above_there None from above e = absurd cc
 above_there (Some path) from above e = absurd cc
 
-event_tells : (book : State) (event : Event) (cut : Option (List ℕ)) (row : Row) (parts : List Row) → parts_after book event cut row ≡ Some parts → Tells book event cut row
+event_tells : (book : BookState) (event : Event) (cut : Option (List ℕ)) (row : Row) (parts : List Row) → parts_after book event cut row ≡ Some parts → TellsOfBest book event cut row
 event_tells book (Took worker number) cut row parts e = inl (refl, refl)
 event_tells book (Claimed worker number) cut row parts e = inl (refl, refl)
 event_tells book (Split number place) cut row parts e = inl (refl, refl)
@@ -46,13 +46,13 @@ event_tells book (Found number place work) (Some path) row parts e =
 abbrev Quiet : Event → Type 0
 Quiet event = is_find event ≡ false
 
-tells_stepped : (book : State) (event : Event) (cut : Option (List ℕ)) (later : State) → FindsTell book → step book event cut ≡ Some later → FindsTell later
+tells_stepped : (book : BookState) (event : Event) (cut : Option (List ℕ)) (later : BookState) → FindsTell book → step book event cut ≡ Some later → FindsTell later
 tells_stepped book event cut later tells e =
     let s = stepped book event cut later e in
     let a = adds book event cut later e in
-    let made : State = recorded book event cut (s.first.before ++ (s.parts ++ s.first.after)) in
+    let made : BookState = recorded book event cut (s.first.before ++ (s.parts ++ s.first.after)) in
     let best-is : later.best ≡ (with_best (new_best book event cut s.row) made).best =
-    ap (λ (b : State). b.best) s.next_is ∙ ap (λ (o : Option (List ℕ)). (with_best o made).best) (sym s.changes.best_is) in
+    ap (λ (b : BookState). b.best) s.next_is ∙ ap (λ (o : Option (List ℕ)). (with_best o made).best) (sym s.changes.best_is) in
     elim (event_tells book event cut s.row s.parts s.parts_are) [
       | inl quiet ↦
           let same : later.best ≡ book.best = best-is ∙ ap (λ (o : Option (List ℕ)). (with_best o made).best) quiet.1 in (
@@ -65,6 +65,6 @@ tells_stepped book event cut later tells e =
       )
     ]
 
-pub best_tells : (t : Tables) → IsSound t → FindsTell (seen t)
+pub best_tells : (t : Tables) → AreSoundTables t → FindsTell (seen t)
 best_tells t sound =
     kept_along FindsTell tells_stepped t.cuts.items t.events.items (new_book t.budget) (λ none. All-nil Quiet, λ none. refl) (seen t) sound.replay

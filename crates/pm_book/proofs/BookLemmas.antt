@@ -1,6 +1,6 @@
 -- What the calls of a book know of its tables.
 use Rattle.std.proofs.Common.{◌≡◌, ℕ, zero, suc, ◌+◌, ◌<◌, ◌≤◌, ◌⊎◌, ◌∙◌, Bool, true, false, cond, List, [], ◌∷◌, ◌++◌, length, take, drop, map, refl, sym, ap, subst, inl, inr, arith}
-use Rattle.std.specs.Prelude.{Option, Some, None, All, Contains, slice_get, ◌==◌, ◌&&◌, ◌||◌, ◌↔◌, not, nat_lt, if◌then◌else◌, IsTrue, IsFalse, Result, Ok, Err, OnErr, MatchOption}
+use Rattle.std.specs.Prelude.{Option, Some, None, All, Contains, slice_get, ◌==◌, ◌&&◌, ◌||◌, ◌↔◌, not, nat_lt, if◌then◌else◌, IsTrue, IsFalse, IsSome, Result, Ok, Err, OnErr, MatchOption}
 use Rattle.std.specs.List.{find}
 use Rattle.std.proofs.lemmas.List.Elements.{All-contains, Contains-append_right, Contains-append_cases}
 use Rattle.std.proofs.lemmas.Bool.Decides.{nat_tests}
@@ -13,28 +13,29 @@ use Rattle.pm_book.specs.declared.event.Event.{Event}
 use Rattle.pm_book.specs.declared.tables.Tables.{Tables}
 use Rattle.pm_book.specs.declared.tables.Spot.{Spot}
 use Rattle.pm_book.specs.declared.tables.Survey.{Survey}
-use Rattle.pm_book.specs.Rows.{Row, State, Span, span_of, Tile, is_before, is_below, is_within, is_queued, is_running, is_above, count_of}
-use Rattle.pm_book.specs.Steps.{where_true, is_about, parts_after, may_return, step, IsReplay}
+use Rattle.pm_book.specs.Rows.{Row, BookState, Span, span_of, Tile, is_before, is_below, is_within, is_queued, is_running, is_above, count_of}
+use Rattle.pm_book.specs.Steps.{where_true, is_about, is_next_cut, parts_after, may_return, step, IsReplay}
 use Rattle.pm_book.specs.Always.{AlwaysHolds}
-use Rattle.pm_book.specs.Seen.{HasPlaces, lower, upper, row_seen, seen, AreKept, IsFirstSpot, IsSound, Surveys}
-use Rattle.pm_book.specs.Answers.{IsQueuedAt, Knows, IsSpotOf, HasStarted, IsOver, NoneQueued, IsInside}
+use Rattle.pm_book.specs.Shown.{HasPlaces, lower, upper, row_seen}
+use Rattle.pm_book.specs.Inside.Seen.{seen, AreKept, IsFirstSpot, AreSoundTables, Surveys, IsSpotOf}
+use Rattle.pm_book.specs.Answers.{IsQueuedAt, Knows, HasStarted, IsBookOver, NoneQueued, IsInside}
 use Rattle.pm_book.proofs.OrderTests.{bool_cases, before_is, below_is, not_before_is, is_not_before, and_is, not_is, same_is}
 use Rattle.pm_book.proofs.Tiles.{tile_round}
 use Rattle.pm_book.proofs.Kept.{count_append, count_cons, where_in}
 use Rattle.pm_book.proofs.Always.{each_replay_holds}
-use Rattle.pm_book.proofs.Places.{seen_split, all_seen, find_at, no_row, no_parts}
-use Rattle.pm_book.proofs.Moves.{same_self, and_holds, spot_places}
+use Rattle.pm_book.proofs.Places.{seen_split, all_seen, find_at, step_made, no_row, no_parts}
+use Rattle.pm_book.proofs.Moves.{same_self, and_holds, where_holds, spot_places}
 use Rattle.pm_book.proofs.Replays.{replay_more}
 
-pub always_of : (t : Tables) → IsSound t → AlwaysHolds (seen t)
+pub always_of : (t : Tables) → AreSoundTables t → AlwaysHolds (seen t)
 always_of t sound = each_replay_holds t.budget t.cuts.items t.events.items (seen t) sound.replay
 
 -- tables after a step are those of a book, and so are tables that stand for the same
-pub sound_step : (old new : Tables) (event : Event) (cut : Option (List ℕ)) → IsSound old → AreKept new → step (seen old) event cut ≡ Some (seen new) → IsSound new
+pub sound_step : (old new : Tables) (event : Event) (cut : Option (List ℕ)) → AreSoundTables old → AreKept new → step (seen old) event cut ≡ Some (seen new) → AreSoundTables new
 sound_step old new event cut sound kept e = record { kept = kept; replay = replay_more (seen old) event cut (seen new) sound.replay e }
 
-pub sound_same : (old new : Tables) → IsSound old → AreKept new → seen new ≡ seen old → IsSound new
-sound_same old new sound kept same = record { kept = kept; replay = subst (λ (b : State). IsReplay b) (sym same) sound.replay }
+pub sound_same : (old new : Tables) → AreSoundTables old → AreKept new → seen new ≡ seen old → AreSoundTables new
+sound_same old new sound kept same = record { kept = kept; replay = subst (λ (b : BookState). IsReplay b) (sym same) sound.replay }
 
 -- a row of a list is counted
 counted : (n : ℕ) (rows : List Row) (row : Row) → Contains rows row → row.number ≡ n → 1 ≤ count_of n rows
@@ -54,7 +55,7 @@ one_only : (n total count : ℕ) → count ≡ (if nat_lt n total then 1 else 0)
 one_only n total count is = grind (arith, nat_tests)
 
 -- no two rows have one number
-pub row_unique : (book : State) → AlwaysHolds book → (before : List Row) (row : Row) (after : List Row) → book.rows ≡ before ++ (row ∷ after) → (other : Row) → Contains book.rows other → other.number ≡ row.number → row ≡ other
+pub row_unique : (book : BookState) → AlwaysHolds book → (before : List Row) (row : Row) (after : List Row) → book.rows ≡ before ++ (row ∷ after) → (other : Row) → Contains book.rows other → other.number ≡ row.number → row ≡ other
 row_unique book always before row after is other within same =
     let few = one_only row.number (length book.rows) (count_of row.number book.rows) (always.numbered row.number) in
     let total : count_of row.number book.rows ≡ count_of row.number before + count_of row.number (row ∷ after) = ap (count_of row.number) is ∙ count_append row.number before (row ∷ after) in
@@ -110,22 +111,40 @@ spot_interval t spot always there =
     (tile_round (At []) End (map (row_seen t.cuts.items) (take spot.place t.rows.items)) (row_seen t.cuts.items spot.row) (map (row_seen t.cuts.items) (drop (spot.place + 1) t.rows.items))
     (subst (λ (l : List Row). Tile (At []) End l) (seen_split t.cuts.items t.rows.items spot there) always.tiled)).here
 
-pub where_fails : {A : Type 0} (test : Bool) (value : A) → test ≡ false → where_true test value ≡ None
-where_fails test value e = ap (λ (b : Bool). if b then Some value else None) e
-
 -- an event whose row isn't there, or may not have it, is no step
 pub unfound : (t : Tables) (test : BookRow → Bool) (event : Event) (cut : Option (List ℕ)) → ((r : BookRow) → is_about event (row_seen t.cuts.items r) ≡ test r) → All (λ row. test row ≡ false) t.rows.items → step (seen t) event cut ≡ None
 unfound t test event cut about none = no_row (seen t) event cut (all_seen t.cuts.items test (is_about event) about t.rows.items none)
 
 pub refused : (t : Tables) (spot : Spot) (test : BookRow → Bool) (event : Event) (cut : Option (List ℕ)) → ((r : BookRow) → is_about event (row_seen t.cuts.items r) ≡ test r) → IsFirstSpot test t.rows.items spot
-    → parts_after (seen t) event cut (row_seen t.cuts.items spot.row) ≡ None → step (seen t) event cut ≡ None
-refused t spot test event cut about first none =
+    → (may : Bool) (parts : List Row) → parts_after (seen t) event cut (row_seen t.cuts.items spot.row) ≡ where_true may parts → may ≡ false → step (seen t) event cut ≡ None
+refused t spot test event cut about first may parts made not_may =
     no_parts (seen t) event cut (map (row_seen t.cuts.items) (take spot.place t.rows.items)) (row_seen t.cuts.items spot.row) (map (row_seen t.cuts.items) (drop (spot.place + 1) t.rows.items))
-    (seen_split t.cuts.items t.rows.items spot first.there) (all_seen t.cuts.items test (is_about event) about (take spot.place t.rows.items) first.first) (about spot.row ∙ first.passes) none
+    (seen_split t.cuts.items t.rows.items spot first.there) (all_seen t.cuts.items test (is_about event) about (take spot.place t.rows.items) first.first) (about spot.row ∙ first.passes)
+    (made ∙ ap (λ (b : Bool). where_true b parts) not_may)
 
-pub and_fails : (a b : Bool) → b ≡ false → (a && b) ≡ false
+-- an event that its row may have is a step
+pub allowed : (t : Tables) (spot : Spot) (test : BookRow → Bool) (event : Event) (cut : Option (List ℕ)) → ((r : BookRow) → is_about event (row_seen t.cuts.items r) ≡ test r) → IsFirstSpot test t.rows.items spot
+    → (may : Bool) (parts : List Row) → parts_after (seen t) event cut (row_seen t.cuts.items spot.row) ≡ where_true may parts → may ≡ true → IsSome (step (seen t) event cut)
+allowed t spot test event cut about first may parts made is_allowed =
+    subst (λ (o : Option BookState). IsSome o)
+    (sym (step_made (seen t) event cut (map (row_seen t.cuts.items) (take spot.place t.rows.items)) (row_seen t.cuts.items spot.row) (map (row_seen t.cuts.items) (drop (spot.place + 1) t.rows.items)) parts
+    (seen_split t.cuts.items t.rows.items spot first.there) (all_seen t.cuts.items test (is_about event) about (take spot.place t.rows.items) first.first) (about spot.row ∙ first.passes)
+    (made ∙ where_holds may parts is_allowed))) refl
+
+and_fails : (a b : Bool) → b ≡ false → (a && b) ≡ false
 and_fails true b e = e
 and_fails false b e = refl
+
+-- the same of an event that names the next list, and the number of a row
+pub refused_listed : (t : Tables) (spot : Spot) (number : ℕ) (event : Event) (cut : Option (List ℕ)) → ((r : BookRow) → is_about event (row_seen t.cuts.items r) ≡ (r.number == number)) → IsFirstSpot (λ row. row.number == number) t.rows.items spot
+    → (may : Bool) (parts : List Row) → parts_after (seen t) event cut (row_seen t.cuts.items spot.row) ≡ where_true (is_next_cut (seen t) (length t.cuts.items) && may) parts → may ≡ false → step (seen t) event cut ≡ None
+refused_listed t spot number event cut about first may parts made not_may =
+    refused t spot (λ row. row.number == number) event cut about first (is_next_cut (seen t) (length t.cuts.items) && may) parts made (and_fails (is_next_cut (seen t) (length t.cuts.items)) may not_may)
+
+pub allowed_listed : (t : Tables) (spot : Spot) (number : ℕ) (event : Event) (cut : Option (List ℕ)) → ((r : BookRow) → is_about event (row_seen t.cuts.items r) ≡ (r.number == number)) → IsFirstSpot (λ row. row.number == number) t.rows.items spot
+    → (may : Bool) (parts : List Row) → parts_after (seen t) event cut (row_seen t.cuts.items spot.row) ≡ where_true (is_next_cut (seen t) (length t.cuts.items) && may) parts → may ≡ true → IsSome (step (seen t) event cut)
+allowed_listed t spot number event cut about first may parts made is_allowed =
+    allowed t spot (λ row. row.number == number) event cut about first (is_next_cut (seen t) (length t.cuts.items) && may) parts made (and_holds (is_next_cut (seen t) (length t.cuts.items)) may (same_self (length t.cuts.items)) is_allowed)
 
 pub any_err : {T E P : Type 0} → (r : Result T E) → P → OnErr r P
 any_err (Ok x) p = tt
@@ -139,14 +158,14 @@ spot_found t spot test event about first =
     ∙ find_at (is_about event) (map (row_seen t.cuts.items) (take spot.place t.rows.items)) (row_seen t.cuts.items spot.row) (map (row_seen t.cuts.items) (drop (spot.place + 1) t.rows.items))
     (all_seen t.cuts.items test (is_about event) about (take spot.place t.rows.items) first.first) (about spot.row ∙ first.passes)
 
-pub started : (old : State) (mid new : Tables) (spot : Spot) (test : BookRow → Bool) (event : Event) (ticket : Span) → seen mid ≡ old → ((r : BookRow) → is_about event (row_seen mid.cuts.items r) ≡ test r)
+pub started : (old : BookState) (mid new : Tables) (spot : Spot) (test : BookRow → Bool) (event : Event) (ticket : Span) → seen mid ≡ old → ((r : BookRow) → is_about event (row_seen mid.cuts.items r) ≡ test r)
     → IsFirstSpot test mid.rows.items spot → ticket ≡ span_of (row_seen mid.cuts.items spot.row) → step (seen mid) event None ≡ Some (seen new) → HasStarted old event ticket (seen new)
 started old mid new spot test event ticket same about first ticket-is step-is =
-    subst (λ (b : State). HasStarted b event ticket (seen new)) same
+    subst (λ (b : BookState). HasStarted b event ticket (seen new)) same
     (record { row = row_seen mid.cuts.items spot.row; about = spot_found mid spot test event about first; ticket_is = ticket-is; step_is = step-is })
 
 -- a pass that shows that a book isn't over
-pub not_over : (t : Tables) (survey : Survey) (over : Bool) → Surveys t survey → (IsTrue over ↔ ((t.budget < survey.spent) ⊎ IsFalse survey.open)) → over ≡ false → ¬ IsOver (seen t)
+pub not_over : (t : Tables) (survey : Survey) (over : Bool) → Surveys t survey → (IsTrue over ↔ ((t.budget < survey.spent) ⊎ IsFalse survey.open)) → over ≡ false → ¬ IsBookOver (seen t)
 not_over t survey over surveys told not (inl more) = absurd (let yes' = told.1 (inl (omega (arith, more, surveys.spent_is))) in cc)
 not_over t survey over surveys told not (inr closed) = absurd (let yes' = told.1 (inr (surveys.open_is.1 closed)) in cc)
 
@@ -217,7 +236,7 @@ outside_is ticket list e inside =
 pub same_spot : (old mid : Tables) (ticket : Span) (spot : Spot) → mid.rows.items ≡ old.rows.items → seen mid ≡ seen old → IsSpotOf old ticket spot → IsSpotOf mid ticket spot
 same_spot old mid ticket spot rows same is = record {
   running = record { first = subst (λ (l : List BookRow). IsFirstSpot (λ row. row.number == spot.row.number) l spot) (sym rows) is.running.first; runs = is.running.runs };
-  is = ap (λ (l : List (List ℕ)). span_of (row_seen l spot.row)) (ap (λ (b : State). b.cuts) same) ∙ is.is;
+  is = ap (λ (l : List (List ℕ)). span_of (row_seen l spot.row)) (ap (λ (b : BookState). b.cuts) same) ∙ is.is;
 }
 
 pub wanted_is : (t : Tables) (ticket : Span) (spot : Spot) (above : Bool) → IsSpotOf t ticket spot → above ≡ is_above (seen t).best ticket.from
@@ -240,12 +259,12 @@ no_queued t survey surveys is =
 
 -- tables in which room was made for the start of a spot's row
 pub record IsReady (mid : Tables) (test : BookRow → Bool) (spot : Spot) : Type 0 where
-  pub sound : IsSound mid
+  pub sound : AreSoundTables mid
   pub first : IsFirstSpot test mid.rows.items spot
   pub places : HasPlaces (length mid.cuts.items) spot.row
   pub interval : PrecedesBound (lower mid.cuts.items spot.row.from) (upper mid.cuts.items spot.row.to)
 
-pub ready : (old mid : Tables) (test : BookRow → Bool) (spot : Spot) → IsSound old → IsFirstSpot test old.rows.items spot → AreKept mid → mid.rows.items ≡ old.rows.items → seen mid ≡ seen old → IsReady mid test spot
+pub ready : (old mid : Tables) (test : BookRow → Bool) (spot : Spot) → AreSoundTables old → IsFirstSpot test old.rows.items spot → AreKept mid → mid.rows.items ≡ old.rows.items → seen mid ≡ seen old → IsReady mid test spot
 ready old mid test spot sound first kept rows same =
     let sound' = sound_same old mid sound kept same in
     let first' : IsFirstSpot test mid.rows.items spot = subst (λ (l : List BookRow). IsFirstSpot test l spot) (sym rows) first in

@@ -7,7 +7,7 @@ use Rattle.pm_choice.specs.Order.{Precedes, PrecedesBound, IsWithin}
 use Rattle.pm_book.specs.declared.row.RowState.TheVariants.{Queued, Running, Done, Dropped}
 use Rattle.pm_book.specs.declared.event.Event.{Event}
 use Rattle.pm_book.specs.declared.event.Event.TheVariants.{Took, Claimed, Split, Returned, Closed, Found}
-use Rattle.pm_book.specs.Rows.{Row, State, is_before, is_below, is_within, is_queued, is_running, is_above, spent}
+use Rattle.pm_book.specs.Rows.{Row, BookState, is_before, is_below, is_within, is_queued, is_running, is_above, spent}
 use Rattle.pm_book.specs.Steps.{with_state, part_below, part_from, drop_above, ended, returned, is_next_cut, may_return, parts_after, is_about, new_best, with_best, replace_first, recorded, step_at, step}
 use Rattle.pm_book.proofs.OrderTests.{bool_cases, before_is, below_is, and_is, within_is, where_is}
 
@@ -53,7 +53,7 @@ pub data Change : Type 0 where
   closes : ℕ → Change
   finds : List ℕ → ℕ → Change
 
-abbrev pub IsAllowed : State → Change → Row → Type 0
+abbrev pub IsAllowed : BookState → Change → Row → Type 0
 IsAllowed book (starts worker) row = is_queued row.state ≡ true
 IsAllowed book (divides cut) row = (is_running row.state ≡ true) × Precedes row.from cut × PrecedesBound cut row.to
 IsAllowed book drops row = (is_running row.state ≡ true) × (is_above book.best row.from ≡ true)
@@ -64,7 +64,7 @@ IsAllowed book (closes work) row = (is_running row.state ≡ true) × (is_above 
 IsAllowed book (finds path work) row =
     (is_running row.state ≡ true) × (is_above book.best row.from ≡ false) × IsWithin row.from row.to path
 
-abbrev pub parts_of : State → Change → Row → List Row
+abbrev pub parts_of : BookState → Change → Row → List Row
 parts_of book (starts worker) row = with_state (Running worker) row ∷ []
 parts_of book (divides cut) row = part_below cut row.state row ∷ drop_above book.best (part_from cut (length book.rows) row) ∷ []
 parts_of book drops row = with_state Dropped row ∷ []
@@ -84,7 +84,7 @@ IsBy event cut (closes work) = (number : ℕ) × (event ≡ Closed number work)
 IsBy event cut (finds path work) = (number : ℕ) × (place : ℕ) × (event ≡ Found number place work) × (cut ≡ Some path)
 IsBy event cut change = Unit {0}
 
-pub record Changes (book : State) (event : Event) (cut : Option (List ℕ)) (row : Row) (parts : List Row) : Type 0 where
+pub record Changes (book : BookState) (event : Event) (cut : Option (List ℕ)) (row : Row) (parts : List Row) : Type 0 where
   pub change : Change
   pub allowed : IsAllowed book change row
   pub parts_are : parts ≡ parts_of book change row
@@ -92,7 +92,7 @@ pub record Changes (book : State) (event : Event) (cut : Option (List ℕ)) (row
   pub is_by : IsBy event cut change
 
 -- an end of a Running row: it is dropped where it is above best, and else the change is the kept one
-end_cases : (book : State) (event : Event) (cut : Option (List ℕ)) (row : Row) (kept parts : List Row) → is_running row.state ≡ true → ended book.best row kept ≡ parts
+end_cases : (book : BookState) (event : Event) (cut : Option (List ℕ)) (row : Row) (kept parts : List Row) → is_running row.state ≡ true → ended book.best row kept ≡ parts
     → (is_above book.best row.from ≡ true → new_best book event cut row ≡ None)
     → (is_above book.best row.from ≡ false → kept ≡ parts → Changes book event cut row parts) → Changes book event cut row parts
 end_cases book event cut row kept parts running is none keep =
@@ -107,7 +107,7 @@ end_cases book event cut row kept parts running is none keep =
       | inr not_above ↦ keep not_above (sym (ap (λ (b : Bool). if b then with_state Dropped row ∷ [] else kept) not_above) ∙ is)
     ]
 
-pub change_of : (book : State) (event : Event) (cut : Option (List ℕ)) (row : Row) (parts : List Row) → is_about event row ≡ true → parts_after book event cut row ≡ Some parts → Changes book event cut row parts
+pub change_of : (book : BookState) (event : Event) (cut : Option (List ℕ)) (row : Row) (parts : List Row) → is_about event row ≡ true → parts_after book event cut row ≡ Some parts → Changes book event cut row parts
 change_of book (Took worker number) None row parts about e =
     let is = where_is (row.number == number && nat_le (spent book) book.budget) (with_state (Running worker) row ∷ []) parts e in
     record { change = starts worker; allowed = about; parts_are = sym is.1; best_is = refl; is_by = tt }
@@ -174,7 +174,7 @@ change_of book (Closed number work) (Some cut) row parts about e = absurd cc
 change_of book (Found number place work) None row parts about e = absurd cc
 
 -- a step is a change of the first row that its event is about
-pub record Stepped (book : State) (event : Event) (cut : Option (List ℕ)) (next : State) : Type 0 where
+pub record Stepped (book : BookState) (event : Event) (cut : Option (List ℕ)) (next : BookState) : Type 0 where
   pub row : Row
   pub about : find (is_about event) book.rows ≡ Some row
   pub first : IsFirstOf (is_about event) row book.rows
@@ -183,7 +183,7 @@ pub record Stepped (book : State) (event : Event) (cut : Option (List ℕ)) (nex
   pub changes : Changes book event cut row parts
   pub next_is : next ≡ with_best (best_of changes.change) (recorded book event cut (first.before ++ (parts ++ first.after)))
 
-pub stepped : (book : State) (event : Event) (cut : Option (List ℕ)) (next : State) → step book event cut ≡ Some next → Stepped book event cut next
+pub stepped : (book : BookState) (event : Event) (cut : Option (List ℕ)) (next : BookState) → step book event cut ≡ Some next → Stepped book event cut next
 stepped book event cut next e = at_row (find (is_about event) book.rows) refl e
   where
     at_parts : (row : Row) → find (is_about event) book.rows ≡ Some row → (made : Option (List Row)) → parts_after book event cut row ≡ made

@@ -1,29 +1,28 @@
 -- A settled book that honest events made tells of all entries.
-use Rattle.std.proofs.Common.{Bool, ◌≡◌, ℕ, ◌+◌, ◌⊎◌, ◌∙◌, true, false, List, [], ◌∷◌, ◌++◌, length, refl, sym, ap, subst, inl, inr, arith, get_or}
+use Rattle.std.proofs.Common.{◌≡◌, ℕ, ◌+◌, ◌⊎◌, ◌∙◌, true, false, List, [], ◌∷◌, ◌++◌, length, refl, sym, ap, subst, inl, inr, arith, get_or}
 use Rattle.std.specs.Prelude.{Option, Some, None, All, if◌then◌else◌}
 use Rattle.std.specs.List.{sum_by}
 use Rattle.std.proofs.lemmas.List.Sums.{sum_by-cons}
 use Rattle.std.proofs.lemmas.List.Elements.{All-nil, All-cons, All-head, All-tail, All-append, All-map, All-contains}
-use Rattle.pm_space.specs.Key.{Key}
 use Rattle.pm_choice.specs.declared.Bound.{Bound}
 use Rattle.pm_choice.specs.declared.Bound.TheVariants.{At, End}
 use Rattle.pm_choice.specs.Order.{IsWithin}
-use Rattle.pm_search.specs.Attempts.{IsRising}
+use Rattle.pm_choice.specs.Entries.{Entries, Closes, Finds}
+use Rattle.pm_choice.proofs.EntryLemmas.{closes_nothing, closes_join, finds_join, more_closed, more_found}
 use Rattle.pm_book.specs.declared.row.RowState.{RowState}
 use Rattle.pm_book.specs.declared.row.RowState.TheVariants.{Queued, Running, Done, Dropped}
 use Rattle.pm_book.specs.declared.event.Event.{Event}
 use Rattle.pm_book.specs.declared.event.Event.TheVariants.{Returned, Found}
-use Rattle.pm_book.specs.Rows.{Row, State, Tile, is_running, is_found, is_above, work_of}
+use Rattle.pm_book.specs.Rows.{Row, BookState, Tile, is_running, is_found, is_above, work_of}
 use Rattle.pm_book.specs.Steps.{new_book, with_state, part_below, part_from, drop_above, step, replayed, cut_of}
 use Rattle.pm_book.specs.Always.{HasBest, AlwaysHolds}
-use Rattle.pm_book.specs.Honest.{Entries, attempts_of, Closes, Finds, IsTrueAt, IsHonest, AreHonest, front_from, front_of, front_work, EndsFound, SettledBooksTell, SettledBooksTellOfList, SettledBooksTellOfLevel, entries_of}
+use Rattle.pm_book.specs.Honest.{IsTrueAt, IsHonest, AreHonest, front_from, front_of, front_work, EndsFound, SettledBooksTell}
 use Rattle.pm_book.proofs.OrderTests.{before_is, above_more}
 use Rattle.pm_book.proofs.Tiles.{tile_round, TilesRound, ends_before, begins_after, none_empty}
 use Rattle.pm_book.proofs.Changes.{Change, IsAllowed, IsBy, stepped}
 use Rattle.pm_book.proofs.Changes.Change.{starts, divides, drops, requeues, gives_back, closes, finds}
 use Rattle.pm_book.proofs.Kept.{changed_rows, rows_after, best_after, all_left, all_right}
 use Rattle.pm_book.proofs.Always.{among, one, two, moved, always_stepped, always_new, each_replay_holds, none_stays}
-use Rattle.pm_book.proofs.Counts.{closes_nothing, closes_join, finds_join, more_closed, more_found, none_marked, all_counted, level_closes, level_finds, level_exceeds}
 
 -- What a row says of the entries: a Done row has told the truth. Of a found row the path is best, or the
 -- row is above best.
@@ -48,7 +47,7 @@ drop_tells entries best later number from to Queued tells above =
     elim (is_above later from) as (λ b. RowTells entries later (if b then record { number = number; from = from; to = to; state = Dropped } else record { number = number; from = from; to = to; state = Queued })) [ true ↦ tt | false ↦ tt ]
 drop_tells entries best later number from to (Running worker) tells above = tt
 drop_tells entries best later number from to (Done work false) tells above = tells
-drop_tells entries best later number from to (Done work true) tells above = (tells.0, tells.1, inr (above tells.0 tells.1.within tells.2))
+drop_tells entries best later number from to (Done work true) tells above = (tells.0, tells.1, inr (above tells.0 tells.1.first.passes tells.2))
 drop_tells entries best later number from to Dropped tells above = tt
 
 -- what an honest event says of its change
@@ -69,7 +68,7 @@ true_of entries event cut (closes work) row is_by holds = subst (λ (e : Event).
 true_of entries event cut (finds path work) row is_by holds =
     subst (λ (c : Option (List ℕ)). IsTrueAt entries (Found is_by.0 is_by.1 work) c row) is_by.3 (subst (λ (e : Event). IsTrueAt entries e cut row) is_by.2 holds)
 
-found_tells : (entries : Entries) (book : State) (path : List ℕ) (work : ℕ) (row : Row) (before after : List Row) → book.rows ≡ before ++ row ∷ after → TilesRound (At []) End before row after
+found_tells : (entries : Entries) (book : BookState) (path : List ℕ) (work : ℕ) (row : Row) (before after : List Row) → book.rows ≡ before ++ row ∷ after → TilesRound (At []) End before row after
     → IsAllowed book (finds path work) row → Finds entries row.from row.to path work → All (RowTells entries book.best) book.rows → All (RowTells entries (Some path)) (rows_after book (finds path work) row before after)
 found_tells entries book path work row before after is round may holds tells =
     let T : Row → Type 0 = RowTells entries book.best in
@@ -93,7 +92,7 @@ found_tells entries book path work row before after is round may holds tells =
     (λ k d less. let y : Row = get_or after k d in drop_tells entries book.best (Some path) y.number y.from y.to y.state (old' k d less)
     (λ p within either. (before_is path y.from).1 (begins k d less path may.2.below)))))
 
-tells_after : (entries : Entries) (book : State) (change : Change) (row : Row) (before after : List Row) → book.rows ≡ before ++ row ∷ after → TilesRound (At []) End before row after
+tells_after : (entries : Entries) (book : BookState) (change : Change) (row : Row) (before after : List Row) → book.rows ≡ before ++ row ∷ after → TilesRound (At []) End before row after
     → IsAllowed book change row → IsTrueOf entries change row → All (RowTells entries book.best) book.rows → All (RowTells entries (best_after book change)) (rows_after book change row before after)
 tells_after entries book (starts worker) row before after is round may holds tells =
     among (RowTells entries book.best) book (starts worker) row before after is tells (one (RowTells entries book.best) (with_state (Running worker) row) tt)
@@ -112,7 +111,7 @@ tells_after entries book (closes work) row before after is round may holds tells
     among (RowTells entries book.best) book (closes work) row before after is tells (one (RowTells entries book.best) (with_state (Done work false) row) holds)
 tells_after entries book (finds path work) row before after is round may holds tells = found_tells entries book path work row before after is round may holds tells
 
-tells_stepped : (entries : Entries) (book : State) (event : Event) (cut : Option (List ℕ)) (later : State) → AlwaysHolds book → All (RowTells entries book.best) book.rows → IsHonest entries book event cut
+tells_stepped : (entries : Entries) (book : BookState) (event : Event) (cut : Option (List ℕ)) (later : BookState) → AlwaysHolds book → All (RowTells entries book.best) book.rows → IsHonest entries book event cut
     → step book event cut ≡ Some later → All (RowTells entries later.best) later.rows
 tells_stepped entries book event cut later always tells honest e =
     let s = stepped book event cut later e in
@@ -123,18 +122,18 @@ tells_stepped entries book event cut later always tells honest e =
     (subst (λ (b : Option (List ℕ)). All (RowTells entries b) (rows_after book s.changes.change s.row s.first.before s.first.after)) (sym m.best_is)
     (tells_after entries book s.changes.change s.row s.first.before s.first.after s.first.is round s.changes.allowed holds tells))
 
-abbrev IfBookTells : Entries → Option State → Type 0
+abbrev IfBookTells : Entries → Option BookState → Type 0
 IfBookTells entries None = Unit {0}
 IfBookTells entries (Some book) = All (RowTells entries book.best) book.rows
 
-tells_along : (entries : Entries) (cuts : List (List ℕ)) (events : List Event) (start : State) → AlwaysHolds start → All (RowTells entries start.best) start.rows → AreHonest entries cuts events (Some start)
-    → (book : State) → replayed cuts events (Some start) ≡ Some book → All (RowTells entries book.best) book.rows
+tells_along : (entries : Entries) (cuts : List (List ℕ)) (events : List Event) (start : BookState) → AlwaysHolds start → All (RowTells entries start.best) start.rows → AreHonest entries cuts events (Some start)
+    → (book : BookState) → replayed cuts events (Some start) ≡ Some book → All (RowTells entries book.best) book.rows
 tells_along entries cuts [] start always tells honest book e = subst (IfBookTells entries) e tells
 tells_along entries cuts (event ∷ events) start always tells honest book e =
     by (step start event (cut_of cuts event)) refl e honest.1 (λ later a t h same. tells_along entries cuts events later a t h book same)
   where
-    by : (o : Option State) → step start event (cut_of cuts event) ≡ o → replayed cuts events o ≡ Some book → AreHonest entries cuts events o
-        → ((later : State) → AlwaysHolds later → All (RowTells entries later.best) later.rows → AreHonest entries cuts events (Some later) → replayed cuts events (Some later) ≡ Some book → All (RowTells entries book.best) book.rows)
+    by : (o : Option BookState) → step start event (cut_of cuts event) ≡ o → replayed cuts events o ≡ Some book → AreHonest entries cuts events o
+        → ((later : BookState) → AlwaysHolds later → All (RowTells entries later.best) later.rows → AreHonest entries cuts events (Some later) → replayed cuts events (Some later) ≡ Some book → All (RowTells entries book.best) book.rows)
         → All (RowTells entries book.best) book.rows
     by None is same rest go = absurd (let n = none_stays cuts events in cc)
     by (Some later) is same rest go =
@@ -144,7 +143,7 @@ tells_along entries cuts (event ∷ events) start always tells honest book e =
 found_is_marked : (entries : Entries) (best : Option (List ℕ)) (path from : List ℕ) (to : Bound) (state : RowState) → best ≡ Some path → is_found state ≡ true → IsWithin from to path → Tells entries best from to state → entries.is_marked path
 found_is_marked entries best path from to (Done work true) is found within tells =
     elim tells.2 [
-      | inl same ↦ subst (λ (l : List ℕ). entries.is_marked l) (let both : Some tells.0 ≡ Some path = sym same ∙ is in cc) tells.1.marked
+      | inl same ↦ subst (λ (l : List ℕ). entries.is_marked l) (let both : Some tells.0 ≡ Some path = sym same ∙ is in cc) tells.1.first.marked
       | inr above ↦ absurd (within.not_below ((before_is path from).0 (subst (λ (b : Option (List ℕ)). is_above b from ≡ true) is above)))
     ]
 found_is_marked entries best path from to (Done work false) is found within tells = absurd cc
@@ -152,7 +151,7 @@ found_is_marked entries best path from to Queued is found within tells = absurd 
 found_is_marked entries best path from to (Running worker) is found within tells = absurd cc
 found_is_marked entries best path from to Dropped is found within tells = absurd cc
 
-best_is_marked : (entries : Entries) (book : State) → AlwaysHolds book → All (RowTells entries book.best) book.rows → (path : List ℕ) → book.best ≡ Some path → entries.is_marked path
+best_is_marked : (entries : Entries) (book : BookState) → AlwaysHolds book → All (RowTells entries book.best) book.rows → (path : List ℕ) → book.best ≡ Some path → entries.is_marked path
 best_is_marked entries book always tells path is =
     let has : HasBest (Some path) book.rows = subst (λ (b : Option (List ℕ)). HasBest b book.rows) is always.best in
     found_is_marked entries book.best path has.0.from has.0.to has.0.state is has.2.found has.2.within (All-contains (RowTells entries book.best) book.rows has.0 tells has.1)
@@ -237,7 +236,7 @@ settled_tells entries most budget cuts events book e honest settled =
             over = λ more. more_closed entries closed.0 most (front_work book) all more;
             found = λ few ends. absurd (closed.3 ends);
             closed = λ few ends. elim settled [
-              | inl (inl more) ↦ absurd (few more)
+              | inl (inl more) ↦ absurd (omega arith)
               | inl (inr found) ↦ absurd (ends found)
               | inr whole ↦ subst (λ (b : Bound). Closes entries [] b (front_work book)) (closed.2 whole) all
             ];
@@ -250,21 +249,3 @@ settled_tells entries most budget cuts events book e honest settled =
             closed = λ few ends. absurd (ends found.3);
           }
     ]
-
-pub settled_tells_list : (all : List (List ℕ)) (marked : List ℕ → Bool) → IsRising all → SettledBooksTellOfList all marked
-settled_tells_list all marked rising most budget cuts events book e honest settled =
-    let tells = settled_tells (entries_of all marked) most budget cuts events book e honest settled in
-    record {
-      over = tells.over;
-      found = tells.found;
-      closed = λ few ends. let closed = tells.closed few ends in (none_marked all marked (front_work book) closed, all_counted all marked rising (front_work book) closed);
-    }
-
-pub settled_tells_level : (key : Key) → SettledBooksTellOfLevel key
-settled_tells_level key most budget cuts events book e honest settled =
-    let tells = settled_tells (attempts_of key) most budget cuts events book e honest settled in
-    record {
-      over = λ more. level_exceeds key most (tells.over more);
-      found = λ few ends. let found = tells.found few ends in (found.0, found.1, level_finds key [] End found.0 (front_work book) found.2);
-      closed = λ few ends. level_closes key [] End (front_work book) (tells.closed few ends);
-    }

@@ -21,7 +21,8 @@ use Rattle.pm_book.specs.declared.tables.Spot.{Spot}
 use Rattle.pm_book.specs.Rows.{Row, Tile, is_before, is_within, is_queued, is_running}
 use Rattle.pm_book.specs.Steps.{with_state, drop_above, with_best}
 use Rattle.pm_book.specs.Always.{AlwaysHolds}
-use Rattle.pm_book.specs.Seen.{lower, upper, row_seen, seen, best_seen, HasPlaces, AreKept, HasPut, dropped}
+use Rattle.pm_book.specs.Shown.{lower, upper, row_seen, HasPlaces}
+use Rattle.pm_book.specs.Inside.Seen.{seen, best_seen, AreKept, HasPut, dropped}
 use Rattle.pm_book.proofs.OrderTests.{within_is, is_not_before, before_is}
 use Rattle.pm_book.proofs.Tiles.{tile_round, ends_before, begins_after, none_empty}
 use Rattle.pm_book.proofs.Places.{split_at, seen_split, rows_more, same_state, runs}
@@ -60,12 +61,18 @@ before_path from before row path tiles not_below k d less =
     is_not_before path (get_or before k d).from
     (λ p. not_below (transitive path (get_or before k d).from row.from p (ends_before from (At row.from) before tiles k d less (get_or before k d).from (none_empty from (At row.from) before tiles k d less))))
 
+front_long : (t : Tables) (spot : Spot) → slice_get t.rows.items spot.place ≡ Some spot.row → length (take spot.place t.rows.items) ≡ spot.place
+front_long t spot there =
+    let a = length-take spot.place t.rows.items in
+    let b = slice_get_within t.rows.items spot.place spot.row there in
+    omega (arith, a, b)
+
 -- one row was put at a spot: the rows up to it, and the rows after it
 pub put_front : (old new : Tables) (spot : Spot) (row : BookRow) (cut : Option (List ℕ)) (event : Event) → slice_get old.rows.items spot.place ≡ Some spot.row → HasPut old new spot.place (row ∷ []) cut event
     → take (spot.place + 1) new.rows.items ≡ take spot.place old.rows.items ++ (row ∷ [])
 put_front old new spot row cut event there put =
     let front = take spot.place old.rows.items in
-    let long : length front ≡ spot.place = (let a = length-take spot.place old.rows.items in let b = slice_get_within old.rows.items spot.place spot.row there in omega (arith, a, b)) in
+    let long = front_long old spot there in
     ap (take (spot.place + 1)) put.rows_are ∙ ap (λ (n : ℕ). take (n + 1) (front ++ (row ∷ drop (spot.place + 1) old.rows.items))) (sym long)
     ∙ take-append-add front (row ∷ drop (spot.place + 1) old.rows.items) 1
 
@@ -73,7 +80,7 @@ pub put_back : (old new : Tables) (spot : Spot) (row : BookRow) (cut : Option (L
     → drop (spot.place + 1) new.rows.items ≡ drop (spot.place + 1) old.rows.items
 put_back old new spot row cut event there put =
     let front = take spot.place old.rows.items in
-    let long : length front ≡ spot.place = (let a = length-take spot.place old.rows.items in let b = slice_get_within old.rows.items spot.place spot.row there in omega (arith, a, b)) in
+    let long = front_long old spot there in
     ap (drop (spot.place + 1)) put.rows_are ∙ ap (λ (n : ℕ). drop (n + 1) (front ++ (row ∷ drop (spot.place + 1) old.rows.items))) (sym long)
     ∙ drop-append-add front (row ∷ drop (spot.place + 1) old.rows.items) 1
 

@@ -12,7 +12,7 @@ use Rattle.pm_choice.specs.Order.{Precedes, PrecedesBound}
 use Rattle.pm_choice.proofs.OrderLemmas.{transitive}
 use Rattle.pm_book.specs.declared.row.RowState.{RowState}
 use Rattle.pm_book.specs.declared.row.RowState.TheVariants.{Queued, Running, Done, Dropped}
-use Rattle.pm_book.specs.Rows.{Row, State, Tile, is_queued, is_running, is_found, is_above, count_of}
+use Rattle.pm_book.specs.Rows.{Row, BookState, Tile, is_queued, is_running, is_found, is_above, count_of}
 use Rattle.pm_book.specs.Steps.{with_state, part_below, part_from, drop_above}
 use Rattle.pm_book.specs.Always.{HasBest}
 use Rattle.pm_book.proofs.OrderTests.{not_before_is, is_not_before}
@@ -45,7 +45,7 @@ tile_dropped best a b [] tiles = tiles
 tile_dropped best a b (x ∷ xs) tiles = tile_one best a b x (map (drop_above best) xs) tiles.0 tiles.1 (tile_dropped best x.to b xs tiles.2)
 
 -- the rows that take a row's place tile its interval
-pub parts_tile : (book : State) (change : Change) (row : Row) → IsAllowed book change row → PrecedesBound row.from row.to → Tile (At row.from) row.to (parts_of book change row)
+pub parts_tile : (book : BookState) (change : Change) (row : Row) → IsAllowed book change row → PrecedesBound row.from row.to → Tile (At row.from) row.to (parts_of book change row)
 parts_tile book (starts worker) row may here = (refl, here, refl)
 parts_tile book (divides cut) row may here =
     (refl, may.1, tile_one book.best (At cut) row.to (part_from cut (length book.rows) row) [] refl may.2 refl)
@@ -56,19 +56,19 @@ parts_tile book (closes work) row may here = (refl, here, refl)
 parts_tile book (finds path work) row may here = (refl, here, refl)
 
 -- the rows after a change, before any is dropped
-abbrev pub changed_rows : State → Change → Row → List Row → List Row → List Row
+abbrev pub changed_rows : BookState → Change → Row → List Row → List Row → List Row
 changed_rows book change row before after = before ++ (parts_of book change row ++ after)
 
 -- the best path and the rows after a change
-abbrev pub best_after : State → Change → Option (List ℕ)
+abbrev pub best_after : BookState → Change → Option (List ℕ)
 best_after book (finds path work) = Some path
 best_after book change = book.best
 
-abbrev pub rows_after : State → Change → Row → List Row → List Row → List Row
+abbrev pub rows_after : BookState → Change → Row → List Row → List Row → List Row
 rows_after book (finds path work) row before after = map (drop_above (Some path)) (changed_rows book (finds path work) row before after)
 rows_after book change row before after = changed_rows book change row before after
 
-pub tile_after : (book : State) (change : Change) (row : Row) (before after : List Row) → IsAllowed book change row → TilesRound (At []) End before row after → Tile (At []) End (rows_after book change row before after)
+pub tile_after : (book : BookState) (change : Change) (row : Row) (before after : List Row) → IsAllowed book change row → TilesRound (At []) End before row after → Tile (At []) End (rows_after book change row before after)
 tile_after book change row before after may round =
     let whole : Tile (At []) End (changed_rows book change row before after) =
     tile_append (At []) (At row.from) End before (parts_of book change row ++ after) round.left (tile_append (At row.from) row.to End (parts_of book change row) after (parts_tile book change row may round.here) round.right) in
@@ -101,7 +101,7 @@ added (divides cut) = 1
 added (gives_back cut work) = 1
 added change = 0
 
-parts_counted : (book : State) (change : Change) (row : Row) (n : ℕ) → count_of n (parts_of book change row) ≡ cond (row.number == n) 1 0 + cond (length book.rows == n) (added change) 0
+parts_counted : (book : BookState) (change : Change) (row : Row) (n : ℕ) → count_of n (parts_of book change row) ≡ cond (row.number == n) 1 0 + cond (length book.rows == n) (added change) 0
 parts_counted book (starts worker) row n = grind (arith, nat_tests)
 parts_counted book (divides cut) row n =
     omega (arith, count_cons n (part_below cut row.state row) (drop_above book.best (part_from cut (length book.rows) row) ∷ []), count_dropped book.best n (part_from cut (length book.rows) row ∷ []))
@@ -111,7 +111,7 @@ parts_counted book (gives_back cut work) row n = omega (arith, count_cons n (par
 parts_counted book (closes work) row n = grind (arith, nat_tests)
 parts_counted book (finds path work) row n = grind (arith, nat_tests)
 
-parts_length : (book : State) (change : Change) (row : Row) → length (parts_of book change row) ≡ 1 + added change
+parts_length : (book : BookState) (change : Change) (row : Row) → length (parts_of book change row) ≡ 1 + added change
 parts_length book (starts worker) row = refl
 parts_length book (divides cut) row = refl
 parts_length book drops row = refl
@@ -124,7 +124,7 @@ length_dropped : (best : Option (List ℕ)) (rows : List Row) → length (map (d
 length_dropped best [] = refl
 length_dropped best (x ∷ xs) = ap suc (length_dropped best xs)
 
-count_changed : (book : State) (change : Change) (row : Row) (before after : List Row) (n : ℕ) → book.rows ≡ before ++ row ∷ after
+count_changed : (book : BookState) (change : Change) (row : Row) (before after : List Row) (n : ℕ) → book.rows ≡ before ++ row ∷ after
     → count_of n (changed_rows book change row before after) ≡ count_of n book.rows + cond (length book.rows == n) (added change) 0
 count_changed book change row before after n is =
     let a = count_append n before (parts_of book change row ++ after) in
@@ -134,7 +134,7 @@ count_changed book change row before after n is =
     let e = count_cons n row after in
     omega (arith, a, b, c, d, e)
 
-length_changed : (book : State) (change : Change) (row : Row) (before after : List Row) → book.rows ≡ before ++ row ∷ after
+length_changed : (book : BookState) (change : Change) (row : Row) (before after : List Row) → book.rows ≡ before ++ row ∷ after
     → length (changed_rows book change row before after) ≡ length book.rows + added change
 length_changed book change row before after is =
     let a = length-append before (parts_of book change row ++ after) in
@@ -145,7 +145,7 @@ length_changed book change row before after is =
     omega (arith, a, b, c, d, e)
 
 -- dropping rows changes neither their count nor their numbers
-after_drops : (P : ℕ → ℕ → Type 0) (book : State) (change : Change) (row : Row) (before after : List Row) (n : ℕ)
+after_drops : (P : ℕ → ℕ → Type 0) (book : BookState) (change : Change) (row : Row) (before after : List Row) (n : ℕ)
     → P (count_of n (changed_rows book change row before after)) (length (changed_rows book change row before after))
     → P (count_of n (rows_after book change row before after)) (length (rows_after book change row before after))
 after_drops P book (starts worker) row before after n holds = holds
@@ -171,7 +171,7 @@ added_few (gives_back cut work) = omega arith
 added_few (closes work) = omega arith
 added_few (finds path work) = omega arith
 
-pub numbered_after : (book : State) (change : Change) (row : Row) (before after : List Row) (n : ℕ) → book.rows ≡ before ++ row ∷ after
+pub numbered_after : (book : BookState) (change : Change) (row : Row) (before after : List Row) (n : ℕ) → book.rows ≡ before ++ row ∷ after
     → count_of n book.rows ≡ (if nat_lt n (length book.rows) then 1 else 0)
     → count_of n (rows_after book change row before after) ≡ (if nat_lt n (length (rows_after book change row before after)) then 1 else 0)
 numbered_after book change row before after n is numbered =
@@ -208,7 +208,7 @@ where_in before row after other within =
     ]
 
 -- where a row runs and isn't above best, best isn't below the end of the row
-pub best_beyond : (book : State) (row : Row) (before after : List Row) → book.rows ≡ before ++ row ∷ after → TilesRound (At []) End before row after → HasBest book.best book.rows
+pub best_beyond : (book : BookState) (row : Row) (before after : List Row) → book.rows ≡ before ++ row ∷ after → TilesRound (At []) End before row after → HasBest book.best book.rows
     → is_running row.state ≡ true → is_above book.best row.from ≡ false → (list : List ℕ) → PrecedesBound list row.to → is_above book.best list ≡ false
 best_beyond book row before after is round has runs not_above list below = by book.best has not_above
   where

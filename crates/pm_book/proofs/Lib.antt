@@ -3,7 +3,6 @@ pub mod Tiles
 pub mod Changes
 pub mod Kept
 pub mod Always
-pub mod Counts
 pub mod Exhaustion
 pub mod Places
 pub mod PutRows

@@ -14,7 +14,8 @@ use Rattle.pm_book.specs.declared.tables.Tables.{Tables}
 use Rattle.pm_book.specs.declared.tables.Spot.{Spot}
 use Rattle.pm_book.specs.Rows.{Row, is_before, is_below, is_within, is_queued, is_running, is_above, spent}
 use Rattle.pm_book.specs.Steps.{where_true, with_state, part_below, part_from, drop_above, ended, returned, may_return, is_next_cut, with_best, step}
-use Rattle.pm_book.specs.Seen.{lower, upper, row_seen, seen, HasPlaces, running_of, HasRoom, AreKept, IsFirstSpot, IsRunningSpot, HasPut, queued_unless, done_unless}
+use Rattle.pm_book.specs.Shown.{lower, upper, row_seen, HasPlaces}
+use Rattle.pm_book.specs.Inside.Seen.{seen, running_of, HasRoom, AreKept, IsFirstSpot, IsRunningSpot, HasPut, queued_unless, done_unless}
 use Rattle.pm_book.proofs.Places.{lower_more, upper_more, row_more, places_more, put_step, running_least}
 
 pub where_holds : {A : Type 0} (test : Bool) (value : A) → test ≡ true → where_true test value ≡ Some value

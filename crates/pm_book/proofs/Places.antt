@@ -11,9 +11,10 @@ use Rattle.pm_book.specs.declared.row.BookRow.{BookRow}
 use Rattle.pm_book.specs.declared.event.Event.{Event}
 use Rattle.pm_book.specs.declared.tables.Tables.{Tables}
 use Rattle.pm_book.specs.declared.tables.Spot.{Spot}
-use Rattle.pm_book.specs.Rows.{Row, State, is_running}
+use Rattle.pm_book.specs.Rows.{Row, BookState, is_running}
 use Rattle.pm_book.specs.Steps.{is_about, parts_after, new_best, with_best, recorded, replace_first, step, step_at}
-use Rattle.pm_book.specs.Seen.{lower, upper, row_seen, seen, best_seen, IsPlace, HasPlaces, running_of, AreKept, IsFirstSpot, HasPut}
+use Rattle.pm_book.specs.Shown.{lower, upper, row_seen, IsCutPlace, HasPlaces}
+use Rattle.pm_book.specs.Inside.Seen.{seen, best_seen, running_of, AreKept, IsFirstSpot, HasPut}
 
 -- a list is what stands before an element, the element, and what stands after it
 split_suc : {X : Type 0} → (xs : List X) (place : ℕ) (x : X) → slice_get xs place ≡ Some x → xs ≡ take place xs ++ (x ∷ drop (suc place) xs)
@@ -42,7 +43,7 @@ find_none test [] none = refl
 find_none test (x ∷ xs) none = ap (λ (b : Bool). cond b (Some x) (find test xs)) (All-head (λ r. test r ≡ false) x xs none) ∙ find_none test xs (All-tail (λ r. test r ≡ false) x xs none)
 
 -- what a step makes, where the row of its event is known
-pub step_made : (book : State) (event : Event) (cut : Option (List ℕ)) (before : List Row) (row : Row) (after parts : List Row)
+pub step_made : (book : BookState) (event : Event) (cut : Option (List ℕ)) (before : List Row) (row : Row) (after parts : List Row)
     → book.rows ≡ before ++ (row ∷ after) → All (λ r. is_about event r ≡ false) before → is_about event row ≡ true → parts_after book event cut row ≡ Some parts
     → step book event cut ≡ Some (with_best (new_best book event cut row) (recorded book event cut (before ++ (parts ++ after))))
 step_made book event cut before row after parts is none passes made =
@@ -51,25 +52,25 @@ step_made book event cut before row after parts is none passes made =
     ∙ ap (λ (rows : List Row). Some (with_best (new_best book event cut row) (recorded book event cut rows))) (ap (replace_first (is_about event) parts) is ∙ replace_at (is_about event) before row after parts none passes)
 
 -- an event that fits no row, or not its row, is no step
-pub no_row : (book : State) (event : Event) (cut : Option (List ℕ)) → All (λ r. is_about event r ≡ false) book.rows → step book event cut ≡ None
+pub no_row : (book : BookState) (event : Event) (cut : Option (List ℕ)) → All (λ r. is_about event r ≡ false) book.rows → step book event cut ≡ None
 no_row book event cut none = ap (option_and_then (step_at book event cut)) (find_none (is_about event) book.rows none)
 
-pub no_parts : (book : State) (event : Event) (cut : Option (List ℕ)) (before : List Row) (row : Row) (after : List Row)
+pub no_parts : (book : BookState) (event : Event) (cut : Option (List ℕ)) (before : List Row) (row : Row) (after : List Row)
     → book.rows ≡ before ++ (row ∷ after) → All (λ r. is_about event r ≡ false) before → is_about event row ≡ true → parts_after book event cut row ≡ None → step book event cut ≡ None
 no_parts book event cut before row after is none passes made =
     ap (option_and_then (step_at book event cut)) (ap (find (is_about event)) is ∙ find_at (is_about event) before row after none passes)
     ∙ ap (option_map (λ (ps : List Row). with_best (new_best book event cut row) (recorded book event cut (replace_first (is_about event) ps book.rows)))) made
 
 -- more cuts change nothing for rows whose places are among the cuts
-pub lower_more : (cuts more : List (List ℕ)) (place : Option ℕ) → IsPlace (length cuts) place → lower (cuts ++ more) place ≡ lower cuts place
+pub lower_more : (cuts more : List (List ℕ)) (place : Option ℕ) → IsCutPlace (length cuts) place → lower (cuts ++ more) place ≡ lower cuts place
 lower_more cuts more None is = refl
 lower_more cuts more (Some place) is = get_or_append_left cuts more [] place is
 
-pub upper_more : (cuts more : List (List ℕ)) (place : Option ℕ) → IsPlace (length cuts) place → upper (cuts ++ more) place ≡ upper cuts place
+pub upper_more : (cuts more : List (List ℕ)) (place : Option ℕ) → IsCutPlace (length cuts) place → upper (cuts ++ more) place ≡ upper cuts place
 upper_more cuts more None is = refl
 upper_more cuts more (Some place) is = ap At (get_or_append_left cuts more [] place is)
 
-pub best_more : (cuts more : List (List ℕ)) (place : Option ℕ) → IsPlace (length cuts) place → best_seen (cuts ++ more) place ≡ best_seen cuts place
+pub best_more : (cuts more : List (List ℕ)) (place : Option ℕ) → IsCutPlace (length cuts) place → best_seen (cuts ++ more) place ≡ best_seen cuts place
 best_more cuts more None is = refl
 best_more cuts more (Some place) is = ap Some (get_or_append_left cuts more [] place is)
 
@@ -83,14 +84,14 @@ rows_more cuts more (x ∷ xs) has =
     let b = rows_more cuts more xs (All-tail (HasPlaces (length cuts)) x xs has) in
     cc
 
-place_more : (m n : ℕ) (place : Option ℕ) → m ≤ n → IsPlace m place → IsPlace n place
+place_more : (m n : ℕ) (place : Option ℕ) → m ≤ n → IsCutPlace m place → IsCutPlace n place
 place_more m n None more is = tt
 place_more m n (Some place) more is = omega arith
 
 pub places_more : (m n : ℕ) → m ≤ n → (row : BookRow) → HasPlaces m row → HasPlaces n row
 places_more m n more row has = record { from = place_more m n row.from more has.from; to = place_more m n row.to more has.to }
 
-pub same_state : (a b : State) → a.rows ≡ b.rows → a.best ≡ b.best → a.budget ≡ b.budget → a.cuts ≡ b.cuts → a.events ≡ b.events → a ≡ b
+pub same_state : (a b : BookState) → a.rows ≡ b.rows → a.best ≡ b.best → a.budget ≡ b.budget → a.cuts ≡ b.cuts → a.events ≡ b.events → a ≡ b
 same_state a b rows best budget cuts events =
     let step1 : a ≡ record a { rows = b.rows } = ap (λ (x : List Row). record a { rows = x }) rows in
     let step2 : record a { rows = b.rows } ≡ record a { rows = b.rows; best = b.best } = ap (λ (x : Option (List ℕ)). record a { rows = b.rows; best = x }) best in
@@ -147,7 +148,7 @@ put_step old new spot test rows cut event kept first about put made =
     let made' = step_made (seen old) event cut (map (row_seen cuts) (take spot.place old.rows.items)) (row_seen cuts spot.row) (map (row_seen cuts) (drop (spot.place + 1) old.rows.items))
     (map (row_seen (cuts ++ option_to_list cut)) rows) (seen_split cuts old.rows.items spot first.there)
     (all_seen cuts test (is_about event) about (take spot.place old.rows.items) first.first) (about spot.row ∙ first.passes) made in
-    made' ∙ ap (λ (b : State). Some (with_best (new_best (seen old) event cut (row_seen cuts spot.row)) b)) (sym (seen_put old new spot.place rows cut event kept put))
+    made' ∙ ap (λ (b : BookState). Some (with_best (new_best (seen old) event cut (row_seen cuts spot.row)) b)) (sym (seen_put old new spot.place rows cut event kept put))
 
 -- counts of the Running rows
 count_around : {X : Type 0} → (test : X → Bool) (before : List X) (x : X) (after : List X) → count_by test (before ++ (x ∷ after)) ≡ count_by test before + (cond (test x) 1 0 + count_by test after)
@@ -196,8 +197,8 @@ places_after old new place rows cut event kept put has =
     (All-append (HasPlaces (length old.cuts.items + length (option_to_list cut))) rows (drop (place + 1) old.rows.items) has (All-drop (HasPlaces (length old.cuts.items + length (option_to_list cut))) (place + 1) old.rows.items all)) in
     subst (λ (n : ℕ). All (HasPlaces n) new.rows.items) (sym total) (subst (λ (l : List BookRow). All (HasPlaces (length old.cuts.items + length (option_to_list cut))) l) (sym put.rows_are) whole)
 
-pub best_place_after : (old new : Tables) (place : ℕ) (rows : List BookRow) (cut : Option (List ℕ)) (event : Event) → AreKept old → HasPut old new place rows cut event → IsPlace (length new.cuts.items) new.best
+pub best_place_after : (old new : Tables) (place : ℕ) (rows : List BookRow) (cut : Option (List ℕ)) (event : Event) → AreKept old → HasPut old new place rows cut event → IsCutPlace (length new.cuts.items) new.best
 best_place_after old new place rows cut event kept put =
     let total : length new.cuts.items ≡ length old.cuts.items + length (option_to_list cut) = ap length put.cuts_are ∙ length-append old.cuts.items (option_to_list cut) in
-    subst (λ (b : Option ℕ). IsPlace (length new.cuts.items) b) (sym put.best_is)
+    subst (λ (b : Option ℕ). IsCutPlace (length new.cuts.items) b) (sym put.best_is)
     (place_more (length old.cuts.items) (length new.cuts.items) old.best (omega (arith, total)) kept.best)

@@ -9,7 +9,8 @@ use Rattle.std.proofs.lemmas.Option.{slice_get-get_or}
 use Rattle.pm_book.specs.declared.row.BookRow.{BookRow}
 use Rattle.pm_book.specs.declared.tables.Spot.{Spot}
 use Rattle.pm_book.specs.Rows.{Row, is_queued, is_running, is_above, is_open, counted_work, work_of}
-use Rattle.pm_book.specs.Seen.{lower, row_seen, IsFirstSpot, work_unless, open_unless}
+use Rattle.pm_book.specs.Shown.{lower, row_seen}
+use Rattle.pm_book.specs.Inside.Seen.{IsFirstSpot, work_unless, open_unless}
 use Rattle.pm_book.proofs.Kept.{all_left, all_right}
 
 seen_more : (cuts : List (List ℕ)) (rows : List BookRow) (k : ℕ) (d : BookRow) → k < length rows → map (row_seen cuts) (take (k + 1) rows) ≡ map (row_seen cuts) (take k rows) ++ (row_seen cuts (get_or rows k d) ∷ [])

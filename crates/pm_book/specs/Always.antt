@@ -5,8 +5,8 @@ use Rattle.pm_choice.specs.Order.{IsWithin}
 use Rattle.pm_book.specs.declared.row.RowState.{RowState}
 use Rattle.pm_book.specs.declared.row.RowState.TheVariants.{Queued, Dropped}
 use Rattle.pm_book.specs.declared.event.Event.{Event}
-use Rattle.pm_book.specs.Rows.{Row, State, Tile, is_above, is_found, count_of}
-use Rattle.pm_book.specs.Steps.{new_book, replayed, is_about, parts_after}
+use Rattle.pm_book.specs.Rows.{Row, BookState, Tile, is_above, is_found, count_of}
+use Rattle.pm_book.specs.Steps.{is_about, parts_after, MakesBook}
 use Rattle.std.specs.List.{find}
 
 -- no Queued row is above best, and each Dropped row is
@@ -25,9 +25,10 @@ abbrev pub HasBest : Option (List ℕ) → List Row → Type 0
 HasBest None rows = All (λ row. is_found row.state ≡ false) rows
 HasBest (Some path) rows = (row : Row) × Contains rows row × HoldsPath path row
 
--- The rows tile from the empty list to the end. Their numbers are those below the number of rows, each
--- once. No Queued row is above best, and each Dropped row is. Best lies in a row that was found.
-pub record AlwaysHolds (book : State) : Type 0 where
+-- The rows tile from the empty list to the end. Their numbers are those below the number of rows,
+-- each once. No Queued row is above best, and each Dropped row is. Best lies in a row that was
+-- found.
+pub record AlwaysHolds (book : BookState) : Type 0 where
   pub tiled : Tile (At []) End book.rows
   pub numbered : (n : ℕ) → count_of n book.rows ≡ (if nat_lt n (length book.rows) then 1 else 0)
   pub placed : All (λ row. IsPlaced book.best row.from row.state) book.rows
@@ -51,14 +52,18 @@ pub record Covers (row : Row) (parts : List Row) : Type 0 where
 -- the laws of every list of events
 abbrev pub EachReplayHolds : Type 0
 EachReplayHolds =
-    (budget : ℕ) (cuts : List (List ℕ)) (events : List Event) (book : State) → replayed cuts events (Some (new_book budget)) ≡ Some book → AlwaysHolds book
+    (budget : ℕ) (cuts : List (List ℕ)) (events : List Event) (book : BookState)
+    → MakesBook budget cuts events book → AlwaysHolds book
 
 abbrev pub EachListIsInOneRow : Type 0
 EachListIsInOneRow =
-    (budget : ℕ) (cuts : List (List ℕ)) (events : List Event) (book : State) → replayed cuts events (Some (new_book budget)) ≡ Some book
-    → (list : List ℕ) → IsInOne book.rows list
+    (budget : ℕ) (cuts : List (List ℕ)) (events : List Event) (book : BookState)
+    → MakesBook budget cuts events book → (list : List ℕ) → IsInOne book.rows list
 
 abbrev pub EachEventCoversItsRow : Type 0
 EachEventCoversItsRow =
-    (budget : ℕ) (cuts : List (List ℕ)) (events : List Event) (book : State) → replayed cuts events (Some (new_book budget)) ≡ Some book
-    → (event : Event) (cut : Option (List ℕ)) (row : Row) (parts : List Row) → find (is_about event) book.rows ≡ Some row → parts_after book event cut row ≡ Some parts → Covers row parts
+    (budget : ℕ) (cuts : List (List ℕ)) (events : List Event) (book : BookState)
+    → MakesBook budget cuts events book
+    → (event : Event) (cut : Option (List ℕ)) (row : Row) (parts : List Row)
+    → find (is_about event) book.rows ≡ Some row → parts_after book event cut row ≡ Some parts
+    → Covers row parts

@@ -2,5 +2,6 @@ pub mod Rows
 pub mod Steps
 pub mod Always
 pub mod Honest
-pub mod Seen
+pub mod Shown
 pub mod Answers
+pub mod Inside

@@ -1,4 +1,4 @@
--- A task book as callers see it: rows in the order of their intervals, the best path, and a history.
+-- A task book as callers see it: rows in the order of their intervals, the best path, a history.
 use Rattle.std.specs.Prelude.{◌≡◌, ℕ, Bool, true, false, ◌&&◌, ◌||◌, not, ◌==◌, if◌then◌else◌, List, [], ◌∷◌, map, Option, Some, None}
 use Rattle.std.specs.List.{sum_by, count_by}
 use Rattle.std.specs.Ordering.{nat_cmp, is_lt}
@@ -17,9 +17,9 @@ pub record Row : Type 0 where
   pub to : Bound
   pub state : RowState
 
--- A book: its rows in the order of their intervals, the best path that was found, the most work it may
--- spend, the lists that events named, in order, and the events.
-pub record State : Type 0 where
+-- A book: its rows in the order of their intervals, the best path that was found, the most work it
+-- may spend, the lists that events named, in order, and the events.
+pub record BookState : Type 0 where
   pub rows : List Row
   pub best : Option (List ℕ)
   pub budget : ℕ
@@ -78,14 +78,15 @@ is_open best row = (is_queued row.state || is_running row.state) && not (is_abov
 abbrev pub counted_work : Option (List ℕ) → Row → ℕ
 counted_work best row = if is_above best row.from then 0 else work_of row.state
 
-abbrev pub spent : State → ℕ
+abbrev pub spent : BookState → ℕ
 spent book = sum_by (counted_work book.best) book.rows
 
--- Rows tile from one bound to another: the first begins at the one and the last ends at the other, each
--- begins where the one before it ends, and none is empty.
+-- Rows tile from one bound to another: the first begins at the one and the last ends at the other,
+-- each begins where the one before it ends, and none is empty.
 abbrev pub Tile : Bound → Bound → List Row → Type 0
 Tile from to [] = from ≡ to
-Tile from to (row ∷ rows) = (from ≡ At row.from) × PrecedesBound row.from row.to × Tile row.to to rows
+Tile from to (row ∷ rows) =
+    (from ≡ At row.from) × PrecedesBound row.from row.to × Tile row.to to rows
 
 -- how many rows have a number
 abbrev pub count_of : ℕ → List Row → ℕ

@@ -9,8 +9,9 @@ ghost use Rattle.pm_book.specs.declared.event.Event.TheVariants.{Returned, Close
 ghost use Rattle.pm_book.specs.Rows.{span_of, is_before, is_below, is_queued, is_running, is_above, spent};
 ghost use Rattle.pm_book.specs.Steps.{new_book, IsReplay};
 ghost use Rattle.pm_book.specs.Always.{AlwaysHolds};
-ghost use Rattle.pm_book.specs.Seen.{row_seen, seen, IsPlace, HasPlaces, AreKept, lower, upper};
-ghost use Rattle.pm_book.specs.Answers.{IsOver, NoneQueued, HasTaken, IsQueuedAt, HasClaimed, Knows, IsInside, HasSplit, HasEnded, NoneFound, IsSpotOf};
+ghost use Rattle.pm_book.specs.Shown.{row_seen, IsCutPlace, HasPlaces, lower, upper};
+ghost use Rattle.pm_book.specs.Inside.Seen.{seen, AreKept, IsSpotOf};
+ghost use Rattle.pm_book.specs.Answers.{IsBookOver, NoneQueued, HasTaken, IsQueuedAt, HasClaimed, Knows, IsInside, HasSplit, HasEnded, NoneFound};
 
 use super::event::Event;
 use super::order::{is_before, is_below, is_same};
@@ -21,8 +22,8 @@ use pm_choice::{Bound, Choices};
 use std::alloc::{AllocError, Global};
 use std::marker::Model;
 
-/// The task book of a level: seen as its rows in order, the best path, the budget, the lists that events
-/// named, and the events.
+/// The task book of a level: seen as its rows in order, the best path, the budget, the lists that
+/// events named, and the events.
 ///
 /// A row is above best where best is there and precedes its lower end.
 #[derive(Drop)]
@@ -31,21 +32,24 @@ pub struct Book {
 }
 
 impl Model for Book {
-    ghost use Rattle.pm_book.specs.Rows.{State};
+    ghost use Rattle.pm_book.specs.Rows.{BookState};
 
-    ghost Value = { State };
+    ghost Value = { BookState };
 
-    ghost use Rattle.pm_book.specs.Seen.{seen, IsSound};
+    ghost use Rattle.pm_book.specs.Inside.Seen.{seen, AreSoundTables};
 
     ghost view = { λ a. seen a.tables };
 
-    ghost invariant = { λ a. IsSound a.tables };
+    ghost invariant = { λ a. AreSoundTables a.tables };
 }
 
 /// Whether a row is Running and has the interval of a ticket.
 fn has_interval(tables: &Tables, row: BookRow, ticket: &Ticket) -> bool
     requires { HasPlaces (length tables.now.cuts.items) row }
-    ensures { IsTrue result ↔ (IsTrue (is_running row.state) × (lower tables.now.cuts.items row.from ≡ ticket.now.from) × (upper tables.now.cuts.items row.to ≡ ticket.now.to)) }
+    ensures { let seen = row_seen tables.now.cuts.items row in
+        IsTrue result
+        ↔ (IsTrue (is_running row.state)
+        × (seen.from ≡ ticket.now.from) × (seen.to ≡ ticket.now.to)) }
 {
     is_running(row.state)
         && is_same(tables.lower(row.from), ticket.from())
@@ -56,7 +60,8 @@ fn has_interval(tables: &Tables, row: BookRow, ticket: &Ticket) -> bool
 fn locate(tables: &Tables, ticket: &Ticket) -> Option<Spot>
     requires kept { AreKept tables.now }
     requires always { AlwaysHolds (seen tables.now) }
-    ensures { MatchOption result (¬ Knows (seen tables.now) ticket.now) (IsSpotOf tables.now ticket.now) }
+    ensures { MatchOption result (¬ Knows (seen tables.now) ticket.now)
+        (IsSpotOf tables.now ticket.now) }
 {
     let Some(spot) = tables.find_number(ticket.number()) else {
         return None;
@@ -70,7 +75,8 @@ fn locate(tables: &Tables, ticket: &Ticket) -> Option<Spot>
 /// A ticket of a row.
 fn ticket_of(tables: &Tables, row: BookRow) -> Result<Ticket, AllocError>
     requires places { HasPlaces (length tables.now.cuts.items) row }
-    requires interval { PrecedesBound (lower tables.now.cuts.items row.from) (upper tables.now.cuts.items row.to) }
+    requires interval { PrecedesBound (lower tables.now.cuts.items row.from)
+        (upper tables.now.cuts.items row.to) }
     ensures { IfOk result (λ ticket. ticket ≡ span_of (row_seen tables.now.cuts.items row)) }
 {
     let from = Choices::from_slice(*tables.rows.allocator(), tables.lower(row.from))?;
@@ -84,7 +90,7 @@ fn ticket_of(tables: &Tables, row: BookRow) -> Result<Ticket, AllocError>
 
 /// The upper end of a row.
 fn upper_of(tables: &Tables, to: Option<u64>) -> Result<Bound, AllocError>
-    requires { IsPlace (length tables.now.cuts.items) to }
+    requires { IsCutPlace (length tables.now.cuts.items) to }
     ensures { IfOk result (λ bound. bound ≡ upper tables.now.cuts.items to) }
 {
     match to {
@@ -127,12 +133,13 @@ impl Book {
         })
     }
 
-    /// Makes the first Queued row Running. Over where the budget is exceeded, or no row that isn't above
-    /// best is Queued or Running. Idle where it isn't over and no row is Queued. Costs one pass over the
-    /// rows.
+    /// Makes the first Queued row Running. Over where the budget is exceeded, or no row that isn't
+    /// above best is Queued or Running. Idle where it isn't over and no row is Queued. Costs one
+    /// pass over the rows.
     pub fn take(&mut self, worker: u16) -> Result<Taken, AllocError>
         ensures ok { IfOk result (HasTaken self.old worker self.new) }
-        ensures err { OnErr result ((¬ IsOver self.old) × (¬ NoneQueued self.old) × (self.new ≡ self.old)) }
+        ensures err { OnErr result
+            ((¬ IsBookOver self.old) × (¬ NoneQueued self.old) × (self.new ≡ self.old)) }
     {
         let survey = self.tables.survey();
         if is_over(&survey, self.tables.budget) {
@@ -147,7 +154,8 @@ impl Book {
         Ok(Taken::Task(ticket))
     }
 
-    /// Makes the row of this number Running; Gone where it isn't Queued. Costs one pass over the rows.
+    /// Makes the row of this number Running; Gone where it isn't Queued. Costs one pass over the
+    /// rows.
     pub fn claim(&mut self, row: u64, worker: u16) -> Result<Claimed, AllocError>
         ensures ok { IfOk result (HasClaimed self.old row worker self.new) }
         ensures err { OnErr result (IsQueuedAt self.old row × (self.new ≡ self.old)) }
@@ -164,11 +172,13 @@ impl Book {
         Ok(Claimed::Task(ticket))
     }
 
-    /// Splits the ticket's row at `mid`: the row and the ticket end there, and a new row goes on from
-    /// there, Queued, or Dropped where it is above best. Costs one pass over the rows.
+    /// Splits the ticket's row at `mid`: the row and the ticket end there, and a new row goes on
+    /// from there, Queued, or Dropped where it is above best. Costs one pass over the rows.
     pub fn split(&mut self, ticket: &mut Ticket, mid: &[u32]) -> Result<SplitReply, AllocError>
         ensures ok { IfOk result (HasSplit self.old ticket.old mid.now self.new ticket.new) }
-        ensures err { OnErr result (Knows self.old ticket.old × IsInside ticket.old mid.now × (self.new ≡ self.old) × (ticket.new ≡ ticket.old)) }
+        ensures err { OnErr result
+            (Knows self.old ticket.old × IsInside ticket.old mid.now
+            × (self.new ≡ self.old) × (ticket.new ≡ ticket.old)) }
     {
         let Some(spot) = locate(&self.tables, ticket) else {
             return Ok(SplitReply::Unknown);
@@ -186,13 +196,14 @@ impl Book {
         Ok(SplitReply::Split { row })
     }
 
-    /// Gives a ticket's row back at a list, or at its lower end where `at` is none. What is below the
-    /// list is Done with `work`, and the rest is Queued. Costs one pass over the rows, and takes no
-    /// memory.
+    /// Gives a ticket's row back at a list, or at its lower end where `at` is none. What is below
+    /// the list is Done with `work`, and the rest is Queued. Costs one pass over the rows, and
+    /// takes no memory.
     pub fn give_back(&mut self, ticket: Ticket, at: Option<Choices>, work: u64) -> Ended
         requires within { IsWithin ticket.from ticket.to (unwrap_or at ticket.from) }
         requires work { unwrap_or at ticket.from ≡ ticket.from → work ≡ 0 }
-        ensures { HasEnded self.old ticket (Returned ticket.number (length self.old.cuts) work) (Some (unwrap_or at ticket.from)) self.new result }
+        ensures { let event = Returned ticket.number (length self.old.cuts) work in
+            HasEnded self.old ticket event (Some (unwrap_or at ticket.from)) self.new result }
     {
         let Some(spot) = locate(&self.tables, &ticket) else {
             return Ended::Unknown(ticket);
@@ -209,7 +220,8 @@ impl Book {
         Ended::Kept
     }
 
-    /// Closes a ticket's row: it is Done with `work`. Costs one pass over the rows, and takes no memory.
+    /// Closes a ticket's row: it is Done with `work`. Costs one pass over the rows, and takes no
+    /// memory.
     pub fn close(&mut self, ticket: Ticket, work: u64) -> Ended
         ensures { HasEnded self.old ticket (Closed ticket.number work) None self.new result }
     {
@@ -223,11 +235,12 @@ impl Book {
         Ended::Kept
     }
 
-    /// A path was found in a ticket's row: the row is Done with `work`, best is the path, and each Queued
-    /// row above it is Dropped. Costs one pass over the rows, and takes no memory.
+    /// A path was found in a ticket's row: the row is Done with `work`, best is the path, and each
+    /// Queued row above it is Dropped. Costs one pass over the rows, and takes no memory.
     pub fn found(&mut self, ticket: Ticket, path: Choices, work: u64) -> Ended
         requires { IsWithin ticket.from ticket.to path }
-        ensures { HasEnded self.old ticket (Found ticket.number (length self.old.cuts) work) (Some path) self.new result }
+        ensures { let event = Found ticket.number (length self.old.cuts) work in
+            HasEnded self.old ticket event (Some path) self.new result }
     {
         let Some(spot) = locate(&self.tables, &ticket) else {
             return Ended::Unknown(ticket);
@@ -239,10 +252,11 @@ impl Book {
         Ended::Kept
     }
 
-    /// Whether a ticket's row is Running with its interval, and isn't above best. Costs one pass over the
-    /// rows.
+    /// Whether a ticket's row is Running with its interval, and isn't above best. Costs one pass
+    /// over the rows.
     pub fn wanted(&self, ticket: &Ticket) -> bool
-        ensures { IsTrue result ↔ (Knows self.now ticket.now × (is_above self.now.best ticket.now.from ≡ false)) }
+        ensures { IsTrue result
+            ↔ (Knows self.now ticket.now × (is_above self.now.best ticket.now.from ≡ false)) }
     {
         match locate(&self.tables, ticket) {
             Some(_) => !self.tables.is_above(ticket.from()),
@@ -266,7 +280,8 @@ impl Book {
 
     /// The best path; none where no path was found.
     pub fn best(&self) -> Option<&[u32]>
-        ensures best { MatchOption result (self.now.best ≡ None) (λ list. self.now.best ≡ Some list.now) }
+        ensures best { MatchOption result (self.now.best ≡ None)
+            (λ list. self.now.best ≡ Some list.now) }
         ensures none { (self.now.best ≡ None) ↔ NoneFound self.now }
     {
         match self.tables.best {

@@ -1,7 +1,8 @@
 //! Events of a book.
 #![tactic(auto)]
 
-/// One change of a book. `row` is the number of a row, and `cut` the place of a list in the book's cuts.
+/// One change of a book. `row` is the number of a row, and `cut` the place of a list in the book's
+/// cuts.
 #[derive(Clone, Copy, Debug, PartialEq, Eq)]
 pub enum Event {
     Took { worker: u16, row: u64 },

@@ -16,8 +16,9 @@ pub enum RowState {
 
 /// A row of a book: a part of the search.
 ///
-/// `from` and `to` are places in the book's cuts. The lower end of the row is the list at `from`, or the
-/// empty list where there is none; the upper end is the list at `to`, or the end of all lists.
+/// `from` and `to` are places in the book's cuts. The lower end of the row is the list at `from`,
+/// or the empty list where there is none; the upper end is the list at `to`, or the end of all
+/// lists.
 #[derive(Clone, Copy, Debug, PartialEq, Eq)]
 pub struct BookRow {
     pub number: u64,

@@ -7,7 +7,8 @@ ghost use Rattle.pm_book.specs.declared.event.Event.TheVariants.{Took, Claimed, 
 ghost use Rattle.pm_book.specs.Rows.{is_running, is_queued, is_found, is_below, is_above, is_before, is_within, spent, work_of};
 ghost use Rattle.pm_book.specs.Steps.{step, new_book, may_return};
 ghost use Rattle.pm_book.specs.Always.{AlwaysHolds};
-ghost use Rattle.pm_book.specs.Seen.{lower, upper, row_seen, seen, best_seen, IsPlace, HasPlaces, running_of, HasRoom, AreKept, IsFirstSpot, IsRunningSpot, HasPut, dropped, work_unless, open_unless, queued_unless, done_unless, Surveys};
+ghost use Rattle.pm_book.specs.Shown.{lower, upper, row_seen, IsCutPlace, HasPlaces};
+ghost use Rattle.pm_book.specs.Inside.Seen.{seen, best_seen, running_of, HasRoom, AreKept, IsFirstSpot, IsRunningSpot, HasPut, dropped, work_unless, open_unless, queued_unless, done_unless, Surveys};
 
 use super::event::Event;
 use super::order::{is_before, is_same};
@@ -35,8 +36,8 @@ pub struct Spot {
     pub row: BookRow,
 }
 
-/// What a pass over the rows tells: the work that is spent, the first Queued row, and whether a row that
-/// isn't above best is Queued or Running.
+/// What a pass over the rows tells: the work that is spent, the first Queued row, and whether a row
+/// that isn't above best is Queued or Running.
 #[derive(Clone, Copy)]
 pub struct Survey {
     pub spent: u128,
@@ -118,7 +119,8 @@ fn stays_whole(above: bool, beyond: bool) -> bool
 fn insert_row(rows: &mut Vec<BookRow>, place: usize, row: Option<BookRow>)
     requires place { place ≤ vec_len rows.old }
     requires room { vec_len rows.old < vec_capacity rows.old }
-    ensures items { rows.new.items ≡ take place rows.old.items ++ (option_to_list row ++ drop place rows.old.items) }
+    ensures items { rows.new.items
+        ≡ take place rows.old.items ++ (option_to_list row ++ drop place rows.old.items) }
     ensures length { vec_len rows.new ≡ vec_len rows.old + length (option_to_list row) }
     ensures capacity { vec_capacity rows.old ≤ vec_capacity rows.new }
 {
@@ -157,7 +159,8 @@ fn dropped(row: BookRow) -> BookRow
 /// Drops the Queued rows among the rows from `first` on.
 fn drop_rows(rows: &mut Vec<BookRow>, first: usize)
     requires { first ≤ vec_len rows.old }
-    ensures items { rows.new.items ≡ take first rows.old.items ++ map dropped (drop first rows.old.items) }
+    ensures items { rows.new.items
+        ≡ take first rows.old.items ++ map dropped (drop first rows.old.items) }
     ensures length { vec_len rows.new ≡ vec_len rows.old }
     ensures capacity { vec_capacity rows.new ≡ vec_capacity rows.old }
 {
@@ -171,7 +174,9 @@ fn drop_rows(rows: &mut Vec<BookRow>, first: usize)
 /// The first Queued row, where the rows up to this one are known.
 fn first_queued(first: Option<Spot>, place: usize, row: BookRow) -> Option<Spot>
     ensures some { IfSome first (λ spot. result ≡ Some spot) }
-    ensures none { first ≡ None → MatchOption result (is_queued row.state ≡ false) (λ spot. (is_queued row.state ≡ true) × (spot ≡ record { place = place; row = row })) }
+    ensures none { first ≡ None
+        → MatchOption result (is_queued row.state ≡ false)
+        (λ spot. (is_queued row.state ≡ true) × (spot ≡ record { place = place; row = row })) }
 {
     if first.is_some() {
         return first;
@@ -207,7 +212,7 @@ impl Tables {
 
     /// The list at a row's lower end.
     pub fn lower(&self, from: Option<u64>) -> &[u32]
-        requires { IsPlace (length self.now.cuts.items) from }
+        requires { IsCutPlace (length self.now.cuts.items) from }
         ensures { result.now ≡ lower self.now.cuts.items from }
     {
         match from {
@@ -218,7 +223,7 @@ impl Tables {
 
     /// Whether a list is below a row's upper end.
     pub fn is_below_end(&self, list: &[u32], to: Option<u64>) -> bool
-        requires { IsPlace (length self.now.cuts.items) to }
+        requires { IsCutPlace (length self.now.cuts.items) to }
         ensures { result ≡ is_below list.now (upper self.now.cuts.items to) }
     {
         match to {
@@ -229,7 +234,7 @@ impl Tables {
 
     /// Whether a row's upper end is this bound.
     pub fn ends_at(&self, to: Option<u64>, bound: &Bound) -> bool
-        requires { IsPlace (length self.now.cuts.items) to }
+        requires { IsCutPlace (length self.now.cuts.items) to }
         ensures { IsTrue result ↔ (upper self.now.cuts.items to ≡ bound.now) }
     {
         match (to, bound) {
@@ -244,7 +249,7 @@ impl Tables {
 
     /// Whether a list is above best.
     pub fn is_above(&self, list: &[u32]) -> bool
-        requires { IsPlace (length self.now.cuts.items) self.now.best }
+        requires { IsCutPlace (length self.now.cuts.items) self.now.best }
         ensures { result ≡ is_above (seen self.now).best list.now }
     {
         match self.best {
@@ -255,7 +260,9 @@ impl Tables {
 
     /// The first row of this number.
     pub fn find_number(&self, number: u64) -> Option<Spot>
-        ensures { MatchOption result (All (λ row. (row.number == number) ≡ false) self.now.rows.items) (IsFirstSpot (λ row. row.number == number) self.now.rows.items) }
+        ensures { MatchOption result
+            (All (λ row. (row.number == number) ≡ false) self.now.rows.items)
+            (IsFirstSpot (λ row. row.number == number) self.now.rows.items) }
     {
         for (place, row) in self.rows.iter().enumerate() {
             if row.number == number {
@@ -286,7 +293,8 @@ impl Tables {
         }
     }
 
-    /// Makes room for two more rows, lists and events beside those for the ends of the Running rows.
+    /// Makes room for two more rows, lists and events beside those for the ends of the Running
+    /// rows.
     pub fn make_room(&mut self) -> Result<(), AllocError>
         requires { AreKept self.old }
         ensures kept { AreKept self.new }
@@ -302,8 +310,8 @@ impl Tables {
         Ok(())
     }
 
-    /// Puts `row`, and `rest` after it where there is one, in the place of a row, and records an event with
-    /// the list that it names.
+    /// Puts `row`, and `rest` after it where there is one, in the place of a row, and records an
+    /// event with the list that it names.
     fn put(
         &mut self,
         spot: Spot,
@@ -314,8 +322,10 @@ impl Tables {
     )
         requires kept { AreKept self.old }
         requires there { slice_get self.old.rows.items spot.place ≡ Some spot.row }
-        requires room { HasRoom self.old (self.old.running + running_of row.state - running_of spot.row.state + 1) }
-        requires places { All (HasPlaces (length self.old.cuts.items + length (option_to_list cut))) (row ∷ option_to_list rest) }
+        requires room { HasRoom self.old
+            (self.old.running + running_of row.state - running_of spot.row.state + 1) }
+        requires places { All (HasPlaces (length self.old.cuts.items + length (option_to_list cut)))
+            (row ∷ option_to_list rest) }
         requires rest { All (λ r. is_running r.state ≡ false) (option_to_list rest) }
         ensures put { HasPut self.old self.new spot.place (row ∷ option_to_list rest) cut event }
         ensures kept { AreKept self.new }
@@ -340,7 +350,8 @@ impl Tables {
         requires spot { IsFirstSpot (λ row. is_queued row.state) self.old.rows.items spot }
         requires room { HasRoom self.old (self.old.running + 2) }
         requires budget { spent (seen self.old) ≤ self.old.budget }
-        ensures step { step (seen self.old) (Took worker spot.row.number) None ≡ Some (seen self.new) }
+        ensures step { step (seen self.old) (Took worker spot.row.number) None
+            ≡ Some (seen self.new) }
         ensures kept { AreKept self.new }
     {
         let row = BookRow {
@@ -357,10 +368,12 @@ impl Tables {
     /// Claims a Queued row.
     pub fn claim(&mut self, spot: Spot, worker: u16)
         requires kept { AreKept self.old }
-        requires spot { IsFirstSpot (λ row. row.number == spot.row.number) self.old.rows.items spot }
+        requires spot { IsFirstSpot
+            (λ row. row.number == spot.row.number) self.old.rows.items spot }
         requires queued { is_queued spot.row.state ≡ true }
         requires room { HasRoom self.old (self.old.running + 2) }
-        ensures step { step (seen self.old) (Claimed worker spot.row.number) None ≡ Some (seen self.new) }
+        ensures step { step (seen self.old) (Claimed worker spot.row.number) None
+            ≡ Some (seen self.new) }
         ensures kept { AreKept self.new }
     {
         let row = BookRow {
@@ -381,7 +394,8 @@ impl Tables {
         requires room { HasRoom self.old (self.old.running + 2) }
         requires from { is_before (lower self.old.cuts.items spot.row.from) cut ≡ true }
         requires to { is_below cut (upper self.old.cuts.items spot.row.to) ≡ true }
-        ensures step { step (seen self.old) (Split spot.row.number (length self.old.cuts.items)) (Some cut) ≡ Some (seen self.new) }
+        ensures step { let event = Split spot.row.number (length self.old.cuts.items) in
+            step (seen self.old) event (Some cut) ≡ Some (seen self.new) }
         ensures kept { AreKept self.new }
     {
         let mid = self.cuts.len() as u64;
@@ -403,13 +417,16 @@ impl Tables {
         self.put(spot, row, Some(rest), Some(cut), event);
     }
 
-    /// Returns a Running row at a list of its interval. Answers whether it was above best, and so dropped.
+    /// Returns a Running row at a list of its interval. Answers whether it was above best, and so
+    /// dropped.
     pub fn give_back(&mut self, spot: Spot, cut: Choices, work: u64) -> bool
         requires kept { AreKept self.old }
         requires spot { IsRunningSpot self.old spot }
         requires may { may_return cut work (row_seen self.old.cuts.items spot.row) ≡ true }
-        ensures above { result ≡ is_above (seen self.old).best (lower self.old.cuts.items spot.row.from) }
-        ensures step { step (seen self.old) (Returned spot.row.number (length self.old.cuts.items) work) (Some cut) ≡ Some (seen self.new) }
+        ensures above { result
+            ≡ is_above (seen self.old).best (lower self.old.cuts.items spot.row.from) }
+        ensures step { let event = Returned spot.row.number (length self.old.cuts.items) work in
+            step (seen self.old) event (Some cut) ≡ Some (seen self.new) }
         ensures kept { AreKept self.new }
     {
         let place = self.cuts.len() as u64;
@@ -448,8 +465,10 @@ impl Tables {
     pub fn close(&mut self, spot: Spot, work: u64) -> bool
         requires kept { AreKept self.old }
         requires spot { IsRunningSpot self.old spot }
-        ensures above { result ≡ is_above (seen self.old).best (lower self.old.cuts.items spot.row.from) }
-        ensures step { step (seen self.old) (Closed spot.row.number work) None ≡ Some (seen self.new) }
+        ensures above { result
+            ≡ is_above (seen self.old).best (lower self.old.cuts.items spot.row.from) }
+        ensures step { step (seen self.old) (Closed spot.row.number work) None
+            ≡ Some (seen self.new) }
         ensures kept { AreKept self.new }
     {
         let above = self.is_above(self.lower(spot.row.from));
@@ -470,9 +489,12 @@ impl Tables {
         requires kept { AreKept self.old }
         requires always { AlwaysHolds (seen self.old) }
         requires spot { IsRunningSpot self.old spot }
-        requires within { is_within (lower self.old.cuts.items spot.row.from) (upper self.old.cuts.items spot.row.to) path ≡ true }
-        ensures above { result ≡ is_above (seen self.old).best (lower self.old.cuts.items spot.row.from) }
-        ensures step { step (seen self.old) (Found spot.row.number (length self.old.cuts.items) work) (Some path) ≡ Some (seen self.new) }
+        requires within { let row = row_seen self.old.cuts.items spot.row in
+            is_within row.from row.to path ≡ true }
+        ensures above { result
+            ≡ is_above (seen self.old).best (lower self.old.cuts.items spot.row.from) }
+        ensures step { let event = Found spot.row.number (length self.old.cuts.items) work in
+            step (seen self.old) event (Some path) ≡ Some (seen self.new) }
         ensures kept { AreKept self.new }
     {
         let place = self.cuts.len() as u64;

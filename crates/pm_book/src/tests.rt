@@ -275,8 +275,8 @@ fn tickets_of_another_book(rt: HostRuntime) {
     assert_eq!(rt; book.events().len(), 0);
 }
 
-/// A row of the plain model. Lists of one number `k` stand at the place `k + 1` of a line, the empty list
-/// at 0, and the end of all lists at `END`.
+/// A row of the plain model. Lists of one number `k` stand at the place `k + 1` of a line, the
+/// empty list at 0, and the end of all lists at `END`.
 #[derive(Clone, Copy)]
 struct PlainRow {
     number: u64,

@@ -1,5 +1,5 @@
 -- The order of choice lists is a strict total one, and intervals join.
-use Rattle.std.proofs.Common.{◌≡◌, ℕ, ◌<◌, ◌≤◌, ◌⊎◌, ◌∙◌, Bool, true, List, [], ◌∷◌, ◌++◌, refl, sym, ap, subst, arith, inl, inr}
+use Rattle.std.proofs.Common.{◌≡◌, ℕ, ◌<◌, ◌⊎◌, ◌∙◌, Bool, true, List, [], ◌∷◌, refl, sym, subst, arith, inl, inr}
 use Rattle.std.specs.Prelude.{◌↔◌}
 use Rattle.std.proofs.lemmas.Bool.{cases_order}
 use Rattle.std.specs.declared.cmp.Ordering.{Ordering}
@@ -9,7 +9,7 @@ use Rattle.std.specs.Cmp.{nat_cmp_is}
 use Rattle.std.specs.Cmp.Lexicographic.{slice_cmp}
 use Rattle.pm_choice.specs.declared.Bound.{Bound}
 use Rattle.pm_choice.specs.declared.Bound.TheVariants.{At, End}
-use Rattle.pm_choice.specs.Order.{IsOrderOf, Precedes, PrecedesBound, IsWithin, IsStrictTotalOrder, PrefixesPrecede, IntervalsJoin}
+use Rattle.pm_choice.specs.Order.{IsOrderOf, Precedes, PrecedesBound, IsStrictTotalOrder, PrefixesPrecede, IntervalsJoin}
 
 pub irreflexive : (list : List ℕ) → ¬ Precedes list list
 irreflexive [] p = p
@@ -62,12 +62,20 @@ below_bound a b (At c) p q = transitive a b c p q
 below_bound a b End p q = tt
 
 -- a list is below b, or isn't
-below_or_not : (list b : List ℕ) → Precedes list b ⊎ (¬ Precedes list b)
+pub below_or_not : (list b : List ℕ) → Precedes list b ⊎ (¬ Precedes list b)
 below_or_not list b =
     elim (total list b) [
       | inl (inl p) ↦ inl p
       | inl (inr e) ↦ inr (λ p. irreflexive b (subst (λ (l : List ℕ). Precedes l b) e p))
       | inr p ↦ inr (λ q. irreflexive b (transitive b list b p q))
+    ]
+
+-- what is below a list precedes what isn't
+pub across_bound : (b x y : List ℕ) → Precedes x b → (¬ Precedes y b) → Precedes x y
+across_bound b x y below above =
+    elim (not_below y b above) [
+      | inl same ↦ subst (λ (l : List ℕ). Precedes x l) (sym same) below
+      | inr after ↦ transitive x b y below after
     ]
 
 -- what isn't below b isn't below what b isn't below

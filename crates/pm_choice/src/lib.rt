@@ -1,4 +1,4 @@
-//! Choice lists and their order.
+//! Choice lists, their order, and counting along it.
 #![tactic(auto)]
 
 ghost use Rattle.std.specs.Prelude.{◌≡◌, ◌↔◌, [], ◌∷◌, ◌++◌, IsTrue, IfOk, IfSome, IfNone, OnOk, OnErr};
@@ -10,7 +10,7 @@ use std::marker::Model;
 
 mod laws;
 
-pub use laws::{intervals_join, order_is_total, prefixes_precede};
+pub use laws::{closed_list_is_counted, intervals_join, order_is_total, prefixes_precede};
 
 /// A list of the numbers of alternatives: seen as the list.
 #[derive(Debug, Drop)]

@@ -7,9 +7,10 @@ use Rattle.pm_logic.specs.Problem.{Problem}
 use Rattle.pm_logic.specs.Tableau.{Tableau}
 use Rattle.pm_calculus.proofs.Unique.{general_unique}
 use Rattle.pm_space.specs.Key.{Key}
-use Rattle.pm_search.specs.Turns.{Closes, Finds}
+use Rattle.pm_choice.specs.Entries.{Closes, Finds}
+use Rattle.pm_search.specs.Attempts.{attempts_of}
 use Rattle.pm_search.specs.Work.{Exceeds}
-use Rattle.pm_search.proofs.WorkLemmas.{finds_once, closes_once, not_both}
+use Rattle.pm_choice.proofs.EntryLemmas.{finds_once, closes_once, not_both}
 use Rattle.pm_deepen.specs.Levels.{Options, key_of, level_at, GoesWith, IsAnswerOf, AnswerIsDetermined}
 use Rattle.pm_choice.specs.declared.Bound.TheVariants.{End}
 use Rattle.pm_deepen.specs.declared.DeepEnd.{DeepEnd}
@@ -27,9 +28,9 @@ same_items (x ∷ xs) (y ∷ ys) count each =
 
 module _ (key_at : ℕ → Key) (depth budget : ℕ) where
   -- an exhausted level whose work is within the budget ends no search
-  ends_nowhere : (exhausted work : ℕ) (end : DeepEnd) → exhausted ≤ depth → Closes (key_at exhausted) [] End work → work ≤ budget → EndsSo key_at depth budget exhausted end → ⊥
+  ends_nowhere : (exhausted work : ℕ) (end : DeepEnd) → exhausted ≤ depth → Closes (attempts_of (key_at exhausted)) [] End work → work ≤ budget → EndsSo key_at depth budget exhausted end → ⊥
   ends_nowhere exhausted work (Proof level path n) within none few ends =
-      not_both (key_at exhausted) path n work (subst (λ (l : ℕ). Finds (key_at l) [] End path n) ends.0 ends.2) none
+      not_both (attempts_of (key_at exhausted)) path n work (subst (λ (l : ℕ). Finds (attempts_of (key_at l)) [] End path n) ends.0 ends.2) none
   ends_nowhere exhausted work DepthReached within none few ends = omega arith
   ends_nowhere exhausted work (BudgetOut level) within none few ends =
       (subst (λ (l : ℕ). Exceeds (key_at l) budget) ends.0 ends.2) work few (inr none)
@@ -50,13 +51,13 @@ module _ (key_at : ℕ → Key) (depth budget : ℕ) where
   same_works : (works others : List ℕ) (end other : DeepEnd) → IsAnswer key_at depth budget works end → IsAnswer key_at depth budget others other → works ≡ others
   same_works works others end other a b =
       let count = same_length works others end other a b in
-      same_items works others count (λ level lt. closes_once (key_at level) (slice_index works level) (slice_index others level) (a.exhausted.closes level lt) (b.exhausted.closes level (omega (arith, count))))
+      same_items works others count (λ level lt. closes_once (attempts_of (key_at level)) (slice_index works level) (slice_index others level) (a.exhausted.closes level lt) (b.exhausted.closes level (omega (arith, count))))
 
   same_end : (exhausted : ℕ) (end other : DeepEnd) → EndsSo key_at depth budget exhausted end → EndsSo key_at depth budget exhausted other → end ≡ other
   same_end exhausted (Proof level path n) (Proof level' path' n') a b =
       let levels : level ≡ level' = a.0 ∙ sym b.0 in
-      let moved : Finds (key_at level) [] End path' n' = subst (λ (l : ℕ). Finds (key_at l) [] End path' n') (sym levels) b.2 in
-      let same = finds_once (key_at level) path path' n n' a.2 moved in
+      let moved : Finds (attempts_of (key_at level)) [] End path' n' = subst (λ (l : ℕ). Finds (attempts_of (key_at l)) [] End path' n') (sym levels) b.2 in
+      let same = finds_once (attempts_of (key_at level)) path path' n n' a.2 moved in
       let paths : path ≡ path' = same.0 in
       let works : n ≡ n' = same.1 in
       cc

@@ -3,7 +3,8 @@ use Rattle.std.proofs.Common.{◌≡◌, ℕ, zero, suc, ◌+◌, ◌<◌, ◌�
 use Rattle.std.specs.Prelude.{slice_index}
 use Rattle.pm_space.specs.Key.{Key}
 use Rattle.pm_choice.specs.declared.Bound.TheVariants.{End}
-use Rattle.pm_search.specs.Turns.{Closes, Finds}
+use Rattle.pm_choice.specs.Entries.{Closes, Finds}
+use Rattle.pm_search.specs.Attempts.{attempts_of}
 use Rattle.pm_search.specs.Work.{Exceeds}
 use Rattle.pm_deepen.specs.declared.DeepEnd.TheVariants.{Proof, DepthReached, BudgetOut}
 use Rattle.pm_deepen.specs.Answer.{AreExhausted, IsAnswer}
@@ -30,14 +31,14 @@ one_more xs ys y count is before = ap (λ (l : List ℕ). length l) is ∙ longe
 pub none_exhausted : (key_at : ℕ → Key) (budget : ℕ) → AreExhausted key_at budget []
 none_exhausted key_at budget = record { closes = λ level lt. absurd (omega arith); within = λ level lt. absurd (omega arith) }
 
-pub one_more_exhausted : (key_at : ℕ → Key) (budget level : ℕ) (works : List ℕ) (work : ℕ) → length works ≡ level → AreExhausted key_at budget works → Closes (key_at level) [] End work → work ≤ budget
+pub one_more_exhausted : (key_at : ℕ → Key) (budget level : ℕ) (works : List ℕ) (work : ℕ) → length works ≡ level → AreExhausted key_at budget works → Closes (attempts_of (key_at level)) [] End work → work ≤ budget
     → AreExhausted key_at budget (works ++ work ∷ [])
 one_more_exhausted key_at budget level works work count before closes few = record {
   closes = λ k lt. elim (index_push works work k lt) [
-    | inl old ↦ subst (λ (n : ℕ). Closes (key_at k) [] End n) (sym old.1) (before.closes k old.0)
+    | inl old ↦ subst (λ (n : ℕ). Closes (attempts_of (key_at k)) [] End n) (sym old.1) (before.closes k old.0)
     | inr new ↦
         let here : level ≡ k = omega (arith, count, new.0) in
-        subst (λ (n : ℕ). Closes (key_at k) [] End n) (sym new.1) (subst (λ (m : ℕ). Closes (key_at m) [] End work) here closes)
+        subst (λ (n : ℕ). Closes (attempts_of (key_at k)) [] End n) (sym new.1) (subst (λ (m : ℕ). Closes (attempts_of (key_at m)) [] End work) here closes)
   ];
   within = λ k lt. elim (index_push works work k lt) [
     | inl old ↦ let least = before.within k old.0 in omega (arith, least, old.1)
@@ -46,7 +47,7 @@ one_more_exhausted key_at budget level works work count before closes few = reco
 }
 
 pub answers_proof : (key_at : ℕ → Key) (depth budget level : ℕ) (works : List ℕ) (path : List ℕ) (work : ℕ) → length works ≡ level → level ≤ depth → AreExhausted key_at budget works
-    → Finds (key_at level) [] End path work → work ≤ budget → IsAnswer key_at depth budget works (Proof level path work)
+    → Finds (attempts_of (key_at level)) [] End path work → work ≤ budget → IsAnswer key_at depth budget works (Proof level path work)
 answers_proof key_at depth budget level works path work count low before finds few =
     record { few = omega (arith, count, low); exhausted = before; ends = (sym count, low, finds, few) }
 

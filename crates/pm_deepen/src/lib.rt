@@ -34,8 +34,8 @@ pub struct Outcome {
     pub end: DeepEnd,
 }
 
-/// Searches the levels of a maker from 0 to `depth`, at most 250, in order, each with a budget of at
-/// most 10^12 attempts, up to the first that isn't exhausted.
+/// Searches the levels of a maker from 0 to `depth`, at most 250, in order, each with a budget of
+/// at most 10^12 attempts, up to the first that isn't exhausted.
 pub fn deepen_alone<M: Maker>(
     alloc: Global,
     maker: &M,
@@ -44,7 +44,8 @@ pub fn deepen_alone<M: Maker>(
 ) -> Result<Outcome, AllocError>
     requires depth { depth ≤ 250 }
     requires budget { budget ≤ 10 ^ 12 }
-    ensures { IfOk result (λ outcome. IsAnswer (M.key_at maker.now) depth budget outcome.works.items outcome.end) }
+    ensures { IfOk result
+        (λ outcome. IsAnswer (M.key_at maker.now) depth budget outcome.works.items outcome.end) }
 {
     let mut works = Vec::new(alloc);
     'levels: for level in 0..depth + 1 {

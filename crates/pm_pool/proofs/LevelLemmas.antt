@@ -1,5 +1,5 @@
 -- What the turn of a search with an attempt more than the budget says of its level.
-use Rattle.std.proofs.Common.{◌≡◌, ℕ, ◌+◌, ◌<◌, ◌≤◌, List, [], sym, subst, arith, inl, inr}
+use Rattle.std.proofs.Common.{◌≡◌, ℕ, ◌+◌, ◌<◌, List, [], subst, arith, inl, inr}
 use Rattle.pm_space.specs.Key.{Key, Agree}
 use Rattle.pm_choice.specs.declared.Bound.{Bound}
 use Rattle.pm_choice.specs.declared.Bound.TheVariants.{End}

@@ -1,4 +1,4 @@
-//! The search of a level, whole.
+//! The search of a level, whole; and what a task book says of a level.
 #![tactic(auto)]
 
 ghost use Rattle.std.specs.Prelude.{◌≤◌, ◌^◌, IfOk};
@@ -8,6 +8,10 @@ use pm_choice::{Bound, Choices};
 use pm_search::{Search, Turn};
 use pm_space::Maker;
 use std::alloc::{AllocError, Global};
+
+mod laws;
+
+pub use laws::settled_books_tell_of_level;
 
 /// How the search of a level ends.
 #[derive(Debug, Drop)]
@@ -20,9 +24,9 @@ pub enum LevelEnd {
     Over,
 }
 
-/// Searches a level from 0 to 250 of a maker with a budget of at most 10^12 attempts. Over where the
-/// level's work exceeds the budget; else Found where the level has a complete list, with the first one,
-/// and Exhausted where it has none.
+/// Searches a level from 0 to 250 of a maker with a budget of at most 10^12 attempts. Over where
+/// the level's work exceeds the budget; else Found where the level has a complete list, with the
+/// first one, and Exhausted where it has none.
 pub fn run_level_alone<M: Maker>(
     alloc: Global,
     maker: &M,

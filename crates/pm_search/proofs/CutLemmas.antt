@@ -9,8 +9,8 @@ use Rattle.pm_choice.specs.Order.{Precedes, PrecedesBound}
 use Rattle.pm_search.specs.declared.Stage.{Stage}
 use Rattle.pm_search.specs.declared.Stage.TheVariants.{Attempting, Ended, Answered}
 use Rattle.pm_search.specs.Attempts.{IsAttempt}
-use Rattle.pm_search.specs.Cuts.{Fits, IsShortestCut}
-use Rattle.pm_search.specs.Places.{IsPlace, next_of}
+use Rattle.pm_search.specs.Cuts.{CutFits, IsShortestCut}
+use Rattle.pm_search.specs.Inside.Places.{IsSearchPlace, next_of}
 use Rattle.pm_search.proofs.ListOrder.{beside}
 use Rattle.pm_search.proofs.AttemptLemmas.{prefix_of_attempt}
 
@@ -19,7 +19,7 @@ pub record HasWidth (key : Key) (place : List ℕ) (n wide : ℕ) : Type 0 where
   pub is : wide ≡ key.width (take n place)
   pub fits : wide < 2 ^ 32
 
-pub width_at : (key : Key) (path place widths : List ℕ) (n : ℕ) → IsPlace key path place widths → n < length place → HasWidth key place n (get_or widths n 0)
+pub width_at : (key : Key) (path place widths : List ℕ) (n : ℕ) → IsSearchPlace key path place widths → n < length place → HasWidth key place n (get_or widths n 0)
 width_at key path place widths n is within =
     let longer : length place ≡ length path + 1 = ap length is.ends.1 ∙ length_push path is.ends.0 in
     let inside : n ≤ length path = omega arith in
@@ -31,15 +31,15 @@ pub parts_at : (list : List ℕ) (n : ℕ) → n < length list → list ≡ take
 parts_at list n within = sym (take-append-drop n list) ∙ ap (λ (l : List ℕ). take n list ++ l) (drop_more list n 0 within)
 
 -- the number after each number of the next attempt fits its type
-pub next_fits : (key : Key) (laws : IsKey key) (path place widths : List ℕ) (n choice : ℕ) → IsPlace key path place widths → IsAttempt key place → n < length place → choice ≡ get_or place n 0 → choice + 1 < 2 ^ 32
+pub next_fits : (key : Key) (laws : IsKey key) (path place widths : List ℕ) (n choice : ℕ) → IsSearchPlace key path place widths → IsAttempt key place → n < length place → choice ≡ get_or place n 0 → choice + 1 < 2 ^ 32
 next_fits key laws path place widths n choice is attempt within read =
     let wide = width_at key path place widths n is within in
     let below = (prefix_of_attempt key laws place attempt (take n place) (get_or place n 0) (drop (n + 1) place) (parts_at place n within)).below in
     omega (arith, wide.is, wide.fits, below, read)
 
-pub cut_here : (key : Key) (path place widths begun cut : List ℕ) (to : Bound) (n choice wide : ℕ) → IsPlace key path place widths → n < length place → choice ≡ get_or place n 0
+pub cut_here : (key : Key) (path place widths begun cut : List ℕ) (to : Bound) (n choice wide : ℕ) → IsSearchPlace key path place widths → n < length place → choice ≡ get_or place n 0
     → wide ≡ get_or widths n wide → choice + 1 < wide → begun ≡ take n place → cut ≡ begun ++ (choice + 1) ∷ [] → PrecedesBound cut to
-    → ((list : List ℕ) (j : ℕ) → Fits key to place list j → n ≤ length list) → IsShortestCut key to place cut
+    → ((list : List ℕ) (j : ℕ) → CutFits key to place list j → n ≤ length list) → IsShortestCut key to place cut
 cut_here key path place widths begun cut to n choice wide is within read wide_read below begun_is cut_is before none =
     let longer : length place ≡ length path + 1 = ap length is.ends.1 ∙ length_push path is.ends.0 in
     let inside : n < length widths = omega (arith, is.measured.count) in
@@ -59,9 +59,9 @@ cut_here key path place widths begun cut to n choice wide is within read wide_re
     }
 
 -- no list fits that ends where the alternative isn't there, or isn't below the bound
-pub none_here : (key : Key) (path place widths : List ℕ) (to : Bound) (n choice wide : ℕ) → IsPlace key path place widths → n < length place → choice ≡ get_or place n 0 → wide ≡ get_or widths n wide
+pub none_here : (key : Key) (path place widths : List ℕ) (to : Bound) (n choice wide : ℕ) → IsSearchPlace key path place widths → n < length place → choice ≡ get_or place n 0 → wide ≡ get_or widths n wide
     → (choice + 1 < wide → ¬ PrecedesBound (take n place ++ (choice + 1) ∷ []) to)
-    → ((list : List ℕ) (j : ℕ) → Fits key to place list j → n ≤ length list) → (list : List ℕ) (j : ℕ) → Fits key to place list j → n + 1 ≤ length list
+    → ((list : List ℕ) (j : ℕ) → CutFits key to place list j → n ≤ length list) → (list : List ℕ) (j : ℕ) → CutFits key to place list j → n + 1 ≤ length list
 none_here key path place widths to n choice wide is within read wide_read beyond none list j fits =
     elim (cases_lt n (length list)) [
       | inl longer ↦ omega arith
@@ -80,7 +80,7 @@ none_here key path place widths to n choice wide is within read wide_read beyond
     ]
 
 -- past the end no list fits
-pub none_fits : (key : Key) (place : List ℕ) (to : Bound) (n : ℕ) → length place ≤ n → ((list : List ℕ) (j : ℕ) → Fits key to place list j → n ≤ length list) → (list : List ℕ) (j : ℕ) → ¬ Fits key to place list j
+pub none_fits : (key : Key) (place : List ℕ) (to : Bound) (n : ℕ) → length place ≤ n → ((list : List ℕ) (j : ℕ) → CutFits key to place list j → n ≤ length list) → (list : List ℕ) (j : ℕ) → ¬ CutFits key to place list j
 none_fits key place to n past none list j fits =
     let longer : length place ≡ length list + length (j ∷ fits.begins.0) = ap length fits.begins.1 ∙ length-append list (j ∷ fits.begins.0) in
     let more : 0 < length (j ∷ fits.begins.0) = omega arith in

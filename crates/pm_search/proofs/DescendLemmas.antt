@@ -4,7 +4,7 @@ use Rattle.std.specs.Prelude.{slice_index}
 use Rattle.std.proofs.lemmas.Bool.{cases_lt}
 use Rattle.std.proofs.lemmas.List.{get_or_append_left, get_or_push, length_push, take-append-le, take_all, take-append-drop, drop_more}
 use Rattle.pm_space.specs.Key.{Key, IsKey, Agree}
-use Rattle.pm_search.specs.Places.{AreWidths, IsPlace, SameBelow}
+use Rattle.pm_search.specs.Inside.Places.{AreWidths, IsSearchPlace, SameBelow}
 use Rattle.pm_search.proofs.PlaceLemmas.{same_where_it_ends, same_where_it_misses}
 
 -- The widths are those of the proper prefixes of a path.
@@ -60,7 +60,7 @@ before_agrees key other agree path widths are = record {
 
 -- the place at a choice after the path
 pub place_at : (key : Key) (path widths : List ℕ) (wide choice : ℕ) → key.reached path → AreWidthsBefore key path widths → wide ≡ key.width path → wide < 2 ^ 32
-    → IsPlace key path (path ++ choice ∷ []) (widths ++ wide ∷ [])
+    → IsSearchPlace key path (path ++ choice ∷ []) (widths ++ wide ∷ [])
 place_at key path widths wide choice reached are is fits = record {
   reached = reached;
   measured = add_width key path widths wide are is fits;
@@ -69,12 +69,12 @@ place_at key path widths wide choice reached are is fits = record {
 
 -- the same, told of what the code holds
 pub stop_at : (key : Key) (path place place' widths widths' : List ℕ) (wide choice : ℕ) → path ≡ place → place' ≡ place ++ choice ∷ [] → widths' ≡ widths ++ wide ∷ []
-    → key.reached path → AreWidthsBefore key place widths → wide ≡ key.width path → wide < 2 ^ 32 → IsPlace key path place' widths'
+    → key.reached path → AreWidthsBefore key place widths → wide ≡ key.width path → wide < 2 ^ 32 → IsSearchPlace key path place' widths'
 stop_at key path place place' widths widths' wide choice same place_is widths_is reached are wide_is fits =
-    let here : IsPlace key path (path ++ choice ∷ []) (widths ++ wide ∷ []) =
+    let here : IsSearchPlace key path (path ++ choice ∷ []) (widths ++ wide ∷ []) =
     place_at key path widths wide choice reached (subst (λ (l : List ℕ). AreWidthsBefore key l widths) (sym same) are) wide_is fits in
-    subst (λ (l : List ℕ). IsPlace key path place' l) (sym widths_is)
-    (subst (λ (l : List ℕ). IsPlace key path l (widths ++ wide ∷ [])) (ap (λ (l : List ℕ). l ++ choice ∷ []) same ∙ sym place_is) here)
+    subst (λ (l : List ℕ). IsSearchPlace key path place' l) (sym widths_is)
+    (subst (λ (l : List ℕ). IsSearchPlace key path l (widths ++ wide ∷ [])) (ap (λ (l : List ℕ). l ++ choice ∷ []) same ∙ sym place_is) here)
 
 pub walk_on : (key : Key) (path place place' widths widths' : List ℕ) (wide choice : ℕ) → path ≡ place → place' ≡ place ++ choice ∷ [] → widths' ≡ widths ++ wide ∷ []
     → AreWidthsBefore key place widths → wide ≡ key.width path → wide < 2 ^ 32 → AreWidthsBefore key place' widths'

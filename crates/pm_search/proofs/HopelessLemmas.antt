@@ -6,7 +6,7 @@ use Rattle.pm_space.specs.Key.{Key}
 use Rattle.pm_choice.specs.declared.Bound.{Bound}
 use Rattle.pm_choice.specs.Order.{PrecedesBound}
 use Rattle.pm_choice.proofs.OrderLemmas.{below_bound}
-use Rattle.pm_search.specs.Places.{AreHopeless}
+use Rattle.pm_search.specs.Inside.Places.{AreHopeless}
 use Rattle.pm_search.proofs.ListOrder.{beside}
 use Rattle.pm_search.proofs.StepLemmas.{IsLast, last_is}
 

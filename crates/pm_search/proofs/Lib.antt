@@ -4,9 +4,7 @@ pub mod AttemptLemmas
 pub mod PlaceLemmas
 pub mod StepLemmas
 pub mod DescendLemmas
-pub mod CountLemmas
 pub mod HopelessLemmas
 pub mod StandingLemmas
 pub mod CutLemmas
-pub mod LawLemmas
 pub mod WorkLemmas

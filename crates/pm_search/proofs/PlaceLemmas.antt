@@ -5,7 +5,7 @@ use Rattle.pm_choice.specs.declared.Bound.{Bound}
 use Rattle.pm_choice.specs.declared.Bound.TheVariants.{At, End}
 use Rattle.pm_choice.specs.Order.{Precedes, PrecedesBound}
 use Rattle.pm_choice.proofs.OrderLemmas.{transitive, prefix_precedes, not_below}
-use Rattle.pm_search.specs.Places.{SameBelow, OneMoreBelow, NoneLeft}
+use Rattle.pm_search.specs.Inside.Places.{SameBelow, OneMoreBelow, NoneLeft}
 use Rattle.pm_search.proofs.ListOrder.{beside, below_first, below_next}
 use Rattle.pm_search.proofs.AttemptLemmas.{prefix_of_attempt}
 

@@ -5,7 +5,7 @@ use Rattle.std.proofs.lemmas.List.{get_or_at, set_at, length_push, take-append-l
 use Rattle.pm_space.specs.Key.{Key, IsKey, Agree}
 use Rattle.pm_choice.specs.declared.Bound.TheVariants.{End}
 use Rattle.pm_search.specs.Attempts.{IsAttempt}
-use Rattle.pm_search.specs.Places.{AreWidths, IsPlace, SameBelow, OneMoreBelow, NoneLeft, HasPassed, HasTried, HasEntered}
+use Rattle.pm_search.specs.Inside.Places.{AreWidths, IsSearchPlace, SameBelow, OneMoreBelow, NoneLeft, HasPassed, HasTried, HasEntered}
 use Rattle.pm_search.proofs.AgreeLemmas.{place_agrees}
 use Rattle.pm_search.proofs.AttemptLemmas.{attempt_here}
 use Rattle.pm_search.proofs.PlaceLemmas.{more_after, more_beside, same_above, none_at_top}
@@ -23,8 +23,8 @@ last_is path place k n choice is index read =
     record { index = here; is = is ∙ ap (λ (x : ℕ). path ++ x ∷ []) (sym same) }
 
 -- the place beside a choice has its path and widths
-pub place_beside : (key : Key) (path place widths : List ℕ) (n choice other : ℕ) → IsPlace key path place widths → IsLast path n choice place
-    → IsPlace key path (set place n other) widths
+pub place_beside : (key : Key) (path place widths : List ℕ) (n choice other : ℕ) → IsSearchPlace key path place widths → IsLast path n choice place
+    → IsSearchPlace key path (set place n other) widths
 place_beside key path place widths n choice other is last = record {
   reached = is.reached;
   measured = is.measured;
@@ -32,7 +32,7 @@ place_beside key path place widths n choice other is last = record {
 }
 
 pub passed_beside : (key : Key) (laws : IsKey key) (path path' place widths : List ℕ) (choice n : ℕ) (longer : Bool)
-    → IsPlace key path place widths → IsAttempt key place → n ≡ length place - 1 → choice ≡ get_or place n choice
+    → IsSearchPlace key path place widths → IsAttempt key place → n ≡ length place - 1 → choice ≡ get_or place n choice
     → longer ≡ false → (IsTrue longer ↔ key.reached (path ++ choice ∷ [])) → MatchBool longer (path' ≡ path ++ choice ∷ []) (path' ≡ path)
     → HasPassed key path' place (set place n (choice + 1)) widths
 passed_beside key laws path path' place widths choice n longer is attempt index read missed tells moved =
@@ -42,21 +42,21 @@ passed_beside key laws path path' place widths choice n longer is attempt index 
     let beside' : set place n (choice + 1) ≡ path ++ (choice + 1) ∷ [] =
     ap (λ (l : List ℕ). set l n (choice + 1)) last.is ∙ set_at path choice [] (choice + 1) n (sym last.index) in
     record {
-      is_place = subst (λ (p : List ℕ). IsPlace key p (set place n (choice + 1)) widths) (sym stays) (place_beside key path place widths n choice (choice + 1) is last);
+      is_place = subst (λ (p : List ℕ). IsSearchPlace key p (set place n (choice + 1)) widths) (sym stays) (place_beside key path place widths n choice (choice + 1) is last);
       one_more = subst (λ (l : List ℕ). OneMoreBelow key l (set place n (choice + 1))) (sym last.is)
           (subst (λ (l : List ℕ). OneMoreBelow key (path ++ choice ∷ []) l) (sym beside') (more_beside key laws path choice unreached));
       incomplete = λ complete. unreached (subst (λ (l : List ℕ). key.reached l) last.is (laws.complete_reached place complete));
     }
 
 pub tried_reached : (key other : Key) (agree : Agree other key) (path path' place widths place' widths' : List ℕ) (choice n : ℕ) (longer : Bool) (found : Option (List ℕ))
-    → IsPlace key path place widths → n ≡ length place - 1 → choice ≡ get_or place n choice
+    → IsSearchPlace key path place widths → n ≡ length place - 1 → choice ≡ get_or place n choice
     → longer ≡ true → MatchBool longer (path' ≡ path ++ choice ∷ []) (path' ≡ path)
     → HasEntered other place place' widths' found → HasTried key path' place place' widths' found
 tried_reached key other agree path path' place widths place' widths' choice n longer None is index read reached moved entered =
     let last = last_is path place is.ends.0 n choice is.ends.1 index read in
     let goes : path' ≡ place = subst (λ (b : Bool). MatchBool b (path' ≡ path ++ choice ∷ []) (path' ≡ path)) reached moved ∙ sym last.is in
     record {
-      is_place = subst (λ (p : List ℕ). IsPlace key p place' widths') (sym goes) (place_agrees key other agree place place' widths' entered.0);
+      is_place = subst (λ (p : List ℕ). IsSearchPlace key p place' widths') (sym goes) (place_agrees key other agree place place' widths' entered.0);
       one_more = subst (λ (l : List ℕ). OneMoreBelow key place l) (sym entered.1) (more_after key place);
       incomplete = λ complete. entered.2 ((agree.complete place).1 complete);
     }
@@ -74,7 +74,7 @@ width_is key path widths n wide are index read =
     get_or_read widths n wide within read 0 ∙ are.each n here ∙ ap key.width (take_all n path whole)
 
 -- at a place whose choice is an alternative stands an attempt
-pub attempt_at : (key : Key) (laws : IsKey key) (path place widths : List ℕ) (n wide choice : ℕ) → IsPlace key path place widths
+pub attempt_at : (key : Key) (laws : IsKey key) (path place widths : List ℕ) (n wide choice : ℕ) → IsSearchPlace key path place widths
     → n + 1 ≡ length place → wide ≡ get_or widths n wide → choice ≡ get_or place n choice → choice < wide → IsAttempt key place
 attempt_at key laws path place widths n wide choice is index wide_read read below =
     let index' : n ≡ length place - 1 = omega arith in
@@ -83,7 +83,7 @@ attempt_at key laws path place widths n wide choice is index wide_read read belo
     attempt_here key laws place path choice last.is is.reached (omega (arith, width))
 
 -- at the top no attempt is left
-pub none_left : (key : Key) (laws : IsKey key) (path place widths : List ℕ) (n wide choice : ℕ) → IsPlace key path place widths
+pub none_left : (key : Key) (laws : IsKey key) (path place widths : List ℕ) (n wide choice : ℕ) → IsSearchPlace key path place widths
     → n + 1 ≡ length place → n ≡ 0 → wide ≡ get_or widths n wide → choice ≡ get_or place n choice → wide ≤ choice → NoneLeft key place End
 none_left key laws path place widths n wide choice is index top wide_read read none =
     let index' : n ≡ length place - 1 = omega arith in
@@ -115,10 +115,10 @@ widths_above key path above widths choice parts are =
 
 -- the place above, whose choice is the next one
 pub record HasClimbed (key : Key) (path place place' widths' : List ℕ) : Type 0 where
-  pub is_place : IsPlace key path place' widths'
+  pub is_place : IsSearchPlace key path place' widths'
   pub same : SameBelow key place place'
 
-pub climbed : (key : Key) (laws : IsKey key) (path above place widths place' widths' : List ℕ) (j n wide choice value : ℕ) → IsPlace key path place widths
+pub climbed : (key : Key) (laws : IsKey key) (path above place widths place' widths' : List ℕ) (j n wide choice value : ℕ) → IsSearchPlace key path place widths
     → n + 1 ≡ length place → wide ≡ get_or widths n wide → choice ≡ get_or place n choice → wide ≤ choice
     → path ≡ above ++ j ∷ [] → place' ≡ take (length place - 1) place → widths' ≡ take (length widths - 1) widths → value ≡ get_or place' (n - 1) value
     → HasClimbed key above place (set place' (n - 1) (value + 1)) widths'
@@ -146,7 +146,7 @@ climbed key laws path above place widths place' widths' j n wide choice value is
     }
 
 -- the choice above is below a width
-pub choice_fits : (key : Key) (laws : IsKey key) (path above place widths place' widths' : List ℕ) (j n choice value : ℕ) → IsPlace key path place widths
+pub choice_fits : (key : Key) (laws : IsKey key) (path above place widths place' widths' : List ℕ) (j n choice value : ℕ) → IsSearchPlace key path place widths
     → n + 1 ≡ length place → choice ≡ get_or place n choice → path ≡ above ++ j ∷ []
     → place' ≡ take (length place - 1) place → widths' ≡ take (length widths - 1) widths → value ≡ get_or place' (n - 1) value → value + 1 < 2 ^ 32
 choice_fits key laws path above place widths place' widths' j n choice value is index read parts popped popped_width value_read =

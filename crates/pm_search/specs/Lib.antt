@@ -2,8 +2,6 @@ pub mod Attempts
 pub mod Turns
 pub mod Standing
 pub mod Cuts
-pub mod Places
 pub mod Laws
 pub mod Work
-pub mod Tree
-pub mod TreeLaws
+pub mod Inside

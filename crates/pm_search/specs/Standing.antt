@@ -1,13 +1,15 @@
 -- How a search stands between its turns.
-use Rattle.std.specs.Prelude.{◌≡◌, ℕ, Bool, true, false, List, ◌+◌, Option, Some, None, MatchOption}
+use Rattle.std.specs.Prelude.{◌≡◌, ℕ, Bool, true, false, List, Option, Some, MatchOption}
 use Rattle.pm_space.specs.Key.{Key}
 use Rattle.pm_choice.specs.declared.Bound.{Bound}
+use Rattle.pm_choice.specs.Entries.{Closes}
 use Rattle.pm_search.specs.declared.Turn.{Turn}
 use Rattle.pm_search.specs.declared.Turn.TheVariants.{Closed, Found, Paused}
-use Rattle.pm_search.specs.Turns.{Closes, Finds, Pauses}
+use Rattle.pm_search.specs.Attempts.{attempts_of}
+use Rattle.pm_search.specs.Turns.{Pauses}
 
--- A search of the interval from a list to a bound: its space, the next attempt where one is left, the
--- number of attempts made, and whether it has answered Closed or Found.
+-- A search of the interval from a list to a bound: its space, the next attempt where one is left,
+-- the number of attempts made, and whether it has answered Closed or Found.
 pub record Standing (S : Type 0) : Type 0 where
   pub space : S
   pub from : List ℕ
@@ -20,27 +22,19 @@ pub record Standing (S : Type 0) : Type 0 where
 -- complete. Where no attempt is left, the same of the whole interval.
 abbrev pub IsAhead : {S : Type 0} → Key → Standing S → Type 0
 IsAhead key search =
-    MatchOption search.next (Closes key search.from search.to search.worked) (λ next. Pauses key search.from search.to next search.worked)
+    MatchOption search.next
+    (Closes (attempts_of key) search.from search.to search.worked)
+    (λ next. Pauses key search.from search.to next search.worked)
 
 -- how a search with this path stands after an answer
 abbrev pub StandsAfter : {S : Type 0} → Turn → Standing S → List ℕ → Type 0
 StandsAfter (Closed work) search path = (search.worked ≡ work) × (search.answered ≡ true)
-StandsAfter (Found found work) search path = (search.worked ≡ work) × (search.answered ≡ true) × (path ≡ found)
-StandsAfter (Paused next work) search path = (search.worked ≡ work) × (search.answered ≡ false) × (search.next ≡ Some next)
+StandsAfter (Found found work) search path =
+    (search.worked ≡ work) × (search.answered ≡ true) × (path ≡ found)
+StandsAfter (Paused next work) search path =
+    (search.worked ≡ work) × (search.answered ≡ false) × (search.next ≡ Some next)
 
 -- the interval of a search is the one from this list to this bound
 pub record Searches {S : Type 0} (from : List ℕ) (to : Bound) (search : Standing S) : Type 0 where
   pub starts : search.from ≡ from
   pub ends : search.to ≡ to
-
--- the answer of a search that stops where it stands
-abbrev pub EndsTurn : {S : Type 0} → Key → Standing S → Turn → Type 0
-EndsTurn key search (Closed work) = Closes key search.from search.to work × (search.next ≡ None) × (work ≡ search.worked)
-EndsTurn key search (Found path work) = ⊥
-EndsTurn key search (Paused next work) = Pauses key search.from search.to next work × (search.next ≡ Some next) × (work ≡ search.worked)
-
--- what one attempt gives: the first complete list of the interval, or nothing
-abbrev pub HasAttempted : {S : Type 0} → Key → Standing S → Standing S → List ℕ → Option (List ℕ) → Type 0
-HasAttempted key old new path None = (new.worked ≡ old.worked + 1) × (new.answered ≡ false)
-HasAttempted key old new path (Some found) =
-    (new.worked ≡ old.worked + 1) × (new.answered ≡ true) × (path ≡ found) × Finds key old.from old.to found new.worked

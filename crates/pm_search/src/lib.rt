@@ -5,9 +5,10 @@ ghost use Rattle.std.specs.Prelude.{◌≡◌, ◌+◌, ◌^◌, ◌<◌, ◌≤
 ghost use Rattle.pm_space.specs.Key.{Agree};
 ghost use Rattle.pm_choice.specs.declared.Bound.TheVariants.{At};
 ghost use Rattle.pm_choice.specs.Order.{Precedes, PrecedesBound};
-ghost use Rattle.pm_search.specs.Turns.{IsTurn, Finds};
-ghost use Rattle.pm_search.specs.Standing.{IsAhead, StandsAfter, Searches, EndsTurn, HasAttempted};
+ghost use Rattle.pm_search.specs.Turns.{IsTurn};
+ghost use Rattle.pm_search.specs.Standing.{IsAhead, StandsAfter, Searches};
 ghost use Rattle.pm_search.specs.Cuts.{IsCut};
+ghost use Rattle.pm_search.specs.Inside.Moves.{EndsTurn, HasAttempted};
 
 use pm_choice::{Bound, Choices, precedes};
 use pm_space::Space;
@@ -18,7 +19,8 @@ mod laws;
 mod place;
 
 pub use laws::{
-    attempts_are_unique, attempts_join, complete_is_attempt, first_is_unique, work_is_unique,
+    attempts_are_unique, attempts_join, complete_is_attempt, first_is_unique, more_attempts_exceed,
+    work_is_unique,
 };
 use place::{descend, pass_hopeless, settle, try_place};
 
@@ -60,11 +62,19 @@ impl<S: Space> Model for Search<S> {
 
     ghost Value = { Standing S };
 
-    ghost use Rattle.pm_search.specs.Places.{next_of, has_answered, Holds};
+    ghost use Rattle.pm_search.specs.Inside.Places.{next_of, has_answered, Holds};
 
-    ghost view = { λ a. record { space = a.space; from = a.from; to = a.to; next = next_of a.stage a.place.items; worked = a.worked; answered = has_answered a.stage } };
+    ghost view = { λ a. record {
+      space = a.space;
+      from = a.from;
+      to = a.to;
+      next = next_of a.stage a.place.items;
+      worked = a.worked;
+      answered = has_answered a.stage;
+    } };
 
-    ghost invariant = { λ a. Holds (S.key a.space) (S.path a.space) a.place.items a.widths.items a.from a.to a.worked a.stage };
+    ghost invariant = { λ a. Holds (S.key a.space) (S.path a.space) a.place.items a.widths.items
+        a.from a.to a.worked a.stage };
 }
 
 impl<S: Space> Search<S> {
@@ -103,10 +113,12 @@ impl<S: Space> Search<S> {
         requires open { self.old.answered ≡ false }
         requires fuel { 0 < fuel }
         requires most { self.old.worked + fuel ≤ 2 ^ 63 }
-        ensures turn { IfOk result (IsTurn (S.key self.old.space) self.old.from self.old.to (self.old.worked + fuel)) }
+        ensures turn { IfOk result
+            (IsTurn (S.key self.old.space) self.old.from self.old.to (self.old.worked + fuel)) }
         ensures after { IfOk result (λ turn. StandsAfter turn self.new (S.path self.new.space)) }
         ensures err { OnErr result (self.new.answered ≡ false) }
-        ensures work { (self.old.worked ≤ self.new.worked) × (self.new.worked ≤ self.old.worked + fuel) }
+        ensures work { (self.old.worked ≤ self.new.worked)
+            × (self.new.worked ≤ self.old.worked + fuel) }
         ensures interval { Searches self.old.from self.old.to self.new }
         ensures key { Agree (S.key self.new.space) (S.key self.old.space) }
     {
@@ -149,14 +161,15 @@ impl<S: Space> Search<S> {
         Ok(Turn::Closed { work })
     }
 
-    /// Passes attempts that the space knows to be hopeless, until `most` are made in all. False where
-    /// the next attempt isn't one.
+    /// Passes attempts that the space knows to be hopeless, until `most` are made in all. False
+    /// where the next attempt isn't one.
     fn pass(&mut self, most: u64) -> bool
         requires next { IsSome self.old.next }
         requires most { self.old.worked < most }
         ensures passed { IsTrue result → self.old.worked < self.new.worked }
         ensures most { self.new.worked ≤ most }
-        ensures none { IsFalse result → (self.new.next ≡ self.old.next) × (self.new.worked ≡ self.old.worked) }
+        ensures none { IsFalse result
+            → (self.new.next ≡ self.old.next) × (self.new.worked ≡ self.old.worked) }
         ensures open { self.new.answered ≡ false }
         ensures interval { Searches self.old.from self.old.to self.new }
         ensures key { Agree (S.key self.new.space) (S.key self.old.space) }
@@ -175,8 +188,10 @@ impl<S: Space> Search<S> {
     fn attempt(&mut self) -> Result<Option<Choices>, AllocError>
         requires next { IsSome self.old.next }
         requires room { self.old.worked < 2 ^ 63 }
-        ensures ok { IfOk result (HasAttempted (S.key self.old.space) self.old self.new (S.path self.new.space)) }
-        ensures err { OnErr result ((self.new.worked ≡ self.old.worked) × (self.new.answered ≡ false)) }
+        ensures ok { IfOk result
+            (HasAttempted (S.key self.old.space) self.old self.new (S.path self.new.space)) }
+        ensures err { OnErr result
+            ((self.new.worked ≡ self.old.worked) × (self.new.answered ≡ false)) }
         ensures interval { Searches self.old.from self.old.to self.new }
         ensures key { Agree (S.key self.new.space) (S.key self.old.space) }
     {
@@ -190,14 +205,15 @@ impl<S: Space> Search<S> {
         Ok(None)
     }
 
-    /// Where the rest of the interval may be cut off: let the next attempt be given. A list fits where
-    /// it is followed by a choice in the next attempt, and is followed by the alternative after this
-    /// choice in a list below the upper bound. Answers that list for the shortest that fits. None
-    /// where none fits or no attempt is left.
+    /// Where the rest of the interval may be cut off: let the next attempt be given. A list fits
+    /// where it is followed by a choice in the next attempt, and is followed by the alternative
+    /// after this choice in a list below the upper bound. Answers that list for the shortest that
+    /// fits. None where none fits or no attempt is left.
     pub fn cut(&self) -> Result<Option<Choices>, AllocError>
         requires { self.now.answered ≡ false }
         ensures cut { IfOk result (IsCut (S.key self.now.space) self.now.to self.now.next) }
-        ensures above { IfOk result (λ cut. IfSome cut (λ list. IsSomeAnd self.now.next (λ next. Precedes next list))) }
+        ensures above { IfOk result
+            (λ cut. IfSome cut (λ list. IsSomeAnd self.now.next (λ next. Precedes next list))) }
         ensures below { IfOk result (λ cut. IfSome cut (λ list. PrecedesBound list self.now.to)) }
     {
         let mut cut = Choices::from_slice(*self.place.allocator(), &[])?;

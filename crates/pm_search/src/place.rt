@@ -1,13 +1,13 @@
 //! Steps from place to place in a space.
 //!
-//! A place is the path of the space followed by a choice, which needn't be an alternative. Beside it
-//! stand the widths of the prefixes of the path.
+//! A place is the path of the space followed by a choice, which needn't be an alternative. Beside
+//! it stand the widths of the prefixes of the path.
 ghost use Rattle.std.specs.Prelude.{◌≡◌, ◌<◌, ◌≤◌, List, ℕ, [], ◌∷◌, ◌++◌, IfOk, OnOk, OnErr, IsTrue, IsFalse, MatchBool};
 ghost use Rattle.pm_space.specs.Key.{Agree};
 ghost use Rattle.pm_choice.specs.Order.{Precedes, PrecedesBound};
 ghost use Rattle.pm_choice.specs.declared.Bound.TheVariants.{End};
 ghost use Rattle.pm_search.specs.Attempts.{IsAttempt};
-ghost use Rattle.pm_search.specs.Places.{IsPlace, SameBelow, NoneLeft, IsSettled, HasTried, HasEntered, AreHopeless};
+ghost use Rattle.pm_search.specs.Inside.Places.{IsSearchPlace, SameBelow, NoneLeft, IsStageAt, HasTried, HasEntered, AreHopeless};
 
 use super::Stage;
 use pm_choice::{Bound, Choices, precedes};
@@ -24,7 +24,8 @@ pub fn descend<S: Space>(
     requires path { S.path space.old ≡ [] }
     requires place { place.old.items ≡ [] }
     requires widths { widths.old.items ≡ [] }
-    ensures place { OnOk result (IsPlace (S.key space.old) (S.path space.new) place.new.items widths.new.items) }
+    ensures place { OnOk result
+        (IsSearchPlace (S.key space.old) (S.path space.new) place.new.items widths.new.items) }
     ensures same { OnOk result (SameBelow (S.key space.old) list.now place.new.items) }
     ensures key { Agree (S.key space.new) (S.key space.old) }
 {
@@ -51,17 +52,19 @@ pub fn descend<S: Space>(
     Ok(())
 }
 
-/// Tries the list at a place. Where it is complete, answers it. Else goes on: to the first choice after
-/// it where it is reached, and to the next choice beside it where it isn't. After want of memory all is
-/// as before.
+/// Tries the list at a place. Where it is complete, answers it. Else goes on: to the first choice
+/// after it where it is reached, and to the next choice beside it where it isn't. After want of
+/// memory all is as before.
 pub fn try_place<S: Space>(
     space: &mut S,
     place: &mut Vec<u32>,
     widths: &mut Vec<u32>,
 ) -> Result<Option<Choices>, AllocError>
-    requires place { IsPlace (S.key space.old) (S.path space.old) place.old.items widths.old.items }
+    requires place { IsSearchPlace (S.key space.old)
+        (S.path space.old) place.old.items widths.old.items }
     requires attempt { IsAttempt (S.key space.old) place.old.items }
-    ensures ok { IfOk result (HasTried (S.key space.old) (S.path space.new) place.old.items place.new.items widths.new.items) }
+    ensures ok { IfOk result (HasTried (S.key space.old) (S.path space.new)
+        place.old.items place.new.items widths.new.items) }
     ensures path { OnErr result (S.path space.new ≡ S.path space.old) }
     ensures place { OnErr result (place.new.items ≡ place.old.items) }
     ensures widths { OnErr result (widths.new.items ≡ widths.old.items) }
@@ -82,16 +85,18 @@ pub fn try_place<S: Space>(
     }
 }
 
-/// Answers the path where it is complete, and else puts the place at the first choice after it. After
-/// want of memory all is as before.
+/// Answers the path where it is complete, and else puts the place at the first choice after it.
+/// After want of memory all is as before.
 fn enter<S: Space>(
     space: &S,
     place: &mut Vec<u32>,
     widths: &mut Vec<u32>,
 ) -> Result<Option<Choices>, AllocError>
     requires path { place.old.items ≡ S.path space.now }
-    requires widths { (path : List ℕ) × IsPlace (S.key space.now) path place.old.items widths.old.items }
-    ensures ok { IfOk result (HasEntered (S.key space.now) place.old.items place.new.items widths.new.items) }
+    requires widths { (path : List ℕ)
+        × IsSearchPlace (S.key space.now) path place.old.items widths.old.items }
+    ensures ok { IfOk result
+        (HasEntered (S.key space.now) place.old.items place.new.items widths.new.items) }
     ensures place { OnErr result (place.new.items ≡ place.old.items) }
     ensures widths { OnErr result (widths.new.items ≡ widths.old.items) }
 {
@@ -107,8 +112,8 @@ fn enter<S: Space>(
 }
 
 /// Passes the lists beside one another, from the one at a place on, that the space knows to be
-/// unreached: at most `most`, and only such as are below the bound. Tells how many; none only where the
-/// list at the place may be reached.
+/// unreached: at most `most`, and only such as are below the bound. Tells how many; none only where
+/// the list at the place may be reached.
 pub fn pass_hopeless<S: Space>(space: &S, place: &mut Vec<u32>, to: &Bound, most: u64) -> u32
     requires most { 0 < most }
     requires attempt { IsAttempt (S.key space.now) place.old.items }
@@ -116,7 +121,8 @@ pub fn pass_hopeless<S: Space>(space: &S, place: &mut Vec<u32>, to: &Bound, most
     requires below { PrecedesBound place.old.items to.now }
     ensures most { result ≤ most }
     ensures same { result ≡ 0 → place.new.items ≡ place.old.items }
-    ensures passed { AreHopeless (S.key space.now) (S.path space.now) place.old.items place.new.items to.now result }
+    ensures passed { AreHopeless (S.key space.now)
+        (S.path space.now) place.old.items place.new.items to.now result }
 {
     let last = place.len() - 1;
     let choice = place[last];
@@ -142,10 +148,11 @@ pub fn settle<S: Space>(
     widths: &mut Vec<u32>,
     to: &Bound,
 ) -> Stage
-    requires { IsPlace (S.key space.old) (S.path space.old) place.old.items widths.old.items }
-    ensures place { IsPlace (S.key space.old) (S.path space.new) place.new.items widths.new.items }
+    requires { IsSearchPlace (S.key space.old) (S.path space.old) place.old.items widths.old.items }
+    ensures place { IsSearchPlace (S.key space.old)
+        (S.path space.new) place.new.items widths.new.items }
     ensures same { SameBelow (S.key space.old) place.old.items place.new.items }
-    ensures settled { IsSettled (S.key space.old) place.new.items to.now result }
+    ensures settled { IsStageAt (S.key space.old) place.new.items to.now result }
     ensures key { Agree (S.key space.new) (S.key space.old) }
 {
     if climb(space, place, widths) && precedes(place, to) {
@@ -155,11 +162,12 @@ pub fn settle<S: Space>(
     }
 }
 
-/// Goes up from a place, or stays, to the next one that has its choice as an alternative. False where
-/// there is none.
+/// Goes up from a place, or stays, to the next one that has its choice as an alternative. False
+/// where there is none.
 fn climb<S: Space>(space: &mut S, place: &mut Vec<u32>, widths: &mut Vec<u32>) -> bool
-    requires { IsPlace (S.key space.old) (S.path space.old) place.old.items widths.old.items }
-    ensures place { IsPlace (S.key space.old) (S.path space.new) place.new.items widths.new.items }
+    requires { IsSearchPlace (S.key space.old) (S.path space.old) place.old.items widths.old.items }
+    ensures place { IsSearchPlace (S.key space.old)
+        (S.path space.new) place.new.items widths.new.items }
     ensures same { SameBelow (S.key space.old) place.old.items place.new.items }
     ensures attempt { IsTrue result → IsAttempt (S.key space.old) place.new.items }
     ensures none { IsFalse result → NoneLeft (S.key space.old) place.new.items End }

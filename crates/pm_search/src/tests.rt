@@ -1,12 +1,13 @@
 //! Tests over a small tree.
 ghost use Rattle.std.specs.Prelude.{◌<◌, IfOk, ◌≡◌, false, []};
-ghost use Rattle.pm_search.specs.Tree.{tree_key, IsInTree};
-ghost use Rattle.pm_search.specs.TreeLaws.{tree_laws};
+ghost use Rattle.pm_search.specs.Inside.Tree.{tree_key, IsInTree};
+ghost use Rattle.pm_search.specs.Inside.TreeLaws.{tree_laws};
 
 use super::*;
 use std::test::Fail;
 
-/// The lists of at most `depth` numbers from `least` on and below `branch`; complete is the last one.
+/// The lists of at most `depth` numbers from `least` on and below `branch`; complete is the last
+/// one.
 #[derive(Drop)]
 struct Tree {
     branch: u32,

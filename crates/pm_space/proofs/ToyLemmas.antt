@@ -8,7 +8,7 @@ use Rattle.std.proofs.lemmas.List.{length_push}
 use Rattle.std.proofs.lemmas.List.Elements.{All-push, All-head, All-tail}
 use Rattle.std.proofs.lemmas.Bool.Decides.{nat_tests}
 use Rattle.pm_space.specs.Toy.{IsInToy, toy_width, value_after, value_of}
-use Rattle.pm_space.specs.ToyLaws.{in_front}
+use Rattle.pm_space.specs.Inside.ToyLaws.{in_front}
 
 pub value_push : (branch value : ℕ) (list : List ℕ) (digit : ℕ) → value_after branch value (list ++ digit ∷ []) ≡ value_after branch value list * branch + digit
 unfolding value_after

@@ -19,5 +19,8 @@ pub record IsKey (key : Key) : Type 0 where
   pub complete_reached : (choices : List ℕ) → key.complete choices → key.reached choices
   pub complete_chosen : key.complete [] → ⊥
   pub complete_ends : (choices : List ℕ) → key.complete choices → key.width choices ≡ 0
-  pub prefix : (choices : List ℕ) (choice : ℕ) → key.reached (choices ++ choice ∷ []) → key.reached choices
-  pub below : (choices : List ℕ) (choice : ℕ) → key.reached (choices ++ choice ∷ []) → choice < key.width choices
+  pub prefix :
+      (choices : List ℕ) (choice : ℕ) → key.reached (choices ++ choice ∷ []) → key.reached choices
+  pub below :
+      (choices : List ℕ) (choice : ℕ) → key.reached (choices ++ choice ∷ [])
+      → choice < key.width choices

@@ -1,3 +1,3 @@
 pub mod Key
 pub mod Toy
-pub mod ToyLaws
+pub mod Inside

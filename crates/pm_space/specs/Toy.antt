@@ -1,5 +1,5 @@
--- The toy space: lists of digits below a branch, up to a length. A full list is complete where it reads
--- as a goal.
+-- The toy space: lists of digits below a branch, up to a length. A full list is complete where it
+-- reads as a goal.
 use Rattle.std.specs.Prelude.{◌≡◌, ℕ, ◌+◌, ◌*◌, ◌<◌, ◌≤◌, List, [], ◌∷◌, length, All, nat_lt, if◌then◌else◌}
 use Rattle.pm_space.specs.Key.{Key}
 
@@ -27,5 +27,8 @@ abbrev pub toy_width : ℕ → ℕ → List ℕ → ℕ
 toy_width branch most list = if nat_lt (length list) most then branch else 0
 
 abbrev pub toy_key : ℕ → ℕ → ℕ → Key
-toy_key branch most goal =
-    record { width = toy_width branch most; reached = IsInToy branch most; complete = IsGoal branch most goal }
+toy_key branch most goal = record {
+  width = toy_width branch most;
+  reached = IsInToy branch most;
+  complete = IsGoal branch most goal;
+}

@@ -13,8 +13,8 @@ pub use toy::{ToyMaker, ToySpace};
 /// A place in a space of choice lists.
 ///
 /// Its meanings are the path (`path`), a reached choice list, and the key (`key`): how many
-/// alternatives come after each list, which lists are reached and which are complete. No call changes
-/// the key.
+/// alternatives come after each list, which lists are reached and which are complete. No call
+/// changes the key.
 pub trait Space: Drop {
     ghost path: { Self → List ℕ };
 
@@ -33,12 +33,14 @@ pub trait Space: Drop {
     fn length(&self) -> usize
         ensures { result ≡ length (path self.now) };
 
-    /// Adds alternative `k` to the path where the longer list is reached, and else answers false and
-    /// leaves the path. After want of memory the path is as before.
+    /// Adds alternative `k` to the path where the longer list is reached, and else answers false
+    /// and leaves the path. After want of memory the path is as before.
     fn step(&mut self, k: u32) -> Result<bool, AllocError>
         requires { k < (key self.old).width (path self.old) }
-        ensures reached { IfOk result (λ longer. IsTrue longer ↔ (key self.old).reached (path self.old ++ k ∷ [])) }
-        ensures path { IfOk result (λ longer. MatchBool longer (path self.new ≡ path self.old ++ k ∷ []) (path self.new ≡ path self.old)) }
+        ensures reached { IfOk result
+            (λ longer. IsTrue longer ↔ (key self.old).reached (path self.old ++ k ∷ [])) }
+        ensures path { IfOk result (λ longer. MatchBool longer
+            (path self.new ≡ path self.old ++ k ∷ []) (path self.new ≡ path self.old)) }
         ensures err { OnErr result (path self.new ≡ path self.old) }
         ensures key { Agree (key self.new) (key self.old) };
 
@@ -48,13 +50,14 @@ pub trait Space: Drop {
         ensures path { (k : ℕ) × (path self.old ≡ path self.new ++ k ∷ []) }
         ensures key { Agree (key self.new) (key self.old) };
 
-    /// A number from `from` to the width below which no alternative, from `from` on, gives a reached
-    /// list.
+    /// A number from `from` to the width below which no alternative, from `from` on, gives a
+    /// reached list.
     fn hopeful(&self, from: u32) -> u32
         requires { from ≤ (key self.now).width (path self.now) }
         ensures from { from ≤ result }
         ensures width { result ≤ (key self.now).width (path self.now) }
-        ensures hopeless { (k : ℕ) → from ≤ k → k < result → (key self.now).reached (path self.now ++ k ∷ []) → ⊥ };
+        ensures hopeless { (k : ℕ) → from ≤ k → k < result
+            → (key self.now).reached (path self.now ++ k ∷ []) → ⊥ };
 
     ghost is_key: { (space : Self) → IsKey (key space) };
 }

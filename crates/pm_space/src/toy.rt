@@ -1,7 +1,7 @@
 //! A small space for tests: lists of digits of which at most one of full length is complete.
 ghost use Rattle.std.specs.Prelude.{◌≡◌, ◌<◌, ◌≤◌};
 ghost use Rattle.pm_space.specs.Toy.{toy_key, value_of, IsInToy};
-ghost use Rattle.pm_space.specs.ToyLaws.{toy_laws};
+ghost use Rattle.pm_space.specs.Inside.ToyLaws.{toy_laws};
 
 use super::*;
 
@@ -17,8 +17,8 @@ pub struct ToyMaker {
     ghost short: { length ≤ 10 },
 }
 
-/// The lists of at most `length` digits below `branch`. Complete are those of full length that read as
-/// `goal` in base `branch`, the highest digit first.
+/// The lists of at most `length` digits below `branch`. Complete are those of full length that read
+/// as `goal` in base `branch`, the highest digit first.
 #[derive(Drop)]
 pub struct ToySpace {
     branch: u32,

@@ -1,11 +1,11 @@
-use Rattle.std.proofs.Common.{◌≡◌, ◌∙◌, ℕ, List, ap, sym, refl, false, [], ◌∷◌, length}
-use Rattle.std.specs.Prelude.{Some, ◌==◌, ◌&&◌}
+use Rattle.std.proofs.Common.{◌∙◌, ℕ, List, ap, sym, refl, [], ◌∷◌, length}
+use Rattle.std.specs.Prelude.{Some, ◌==◌}
 use Rattle.pm_book.specs.declared.event.Event.TheVariants.{Split}
-use Rattle.pm_book.specs.Rows.{is_running, is_before, is_below}
-use Rattle.pm_book.specs.Steps.{part_below, part_from, drop_above, is_next_cut}
-use Rattle.pm_book.specs.Seen.{seen, row_seen}
+use Rattle.pm_book.specs.Steps.{part_below, part_from, drop_above, may_split}
+use Rattle.pm_book.specs.Shown.{row_seen}
+use Rattle.pm_book.specs.Inside.Seen.{seen}
 use Rattle.pm_book.proofs.Moves.{spot_places}
-use Rattle.pm_book.proofs.BookLemmas.{unfound, refused, where_fails, and_fails}
+use Rattle.pm_book.proofs.BookLemmas.{unfound, refused_listed, allowed_listed, any_err}
 use Rattle.pm_book.proofs.history.apply_split.Goals as goal
 
 pub returns-in_default-clause-applied : goal.returns-in_default-clause-applied
@@ -17,12 +17,23 @@ may_split-requires c = spot_places c.args.tables.now c.in-Some.spot c.requires c
 pub returns-then-not-may_split-clause-applied : goal.returns-then-not-may_split-clause-applied
 returns-then-not-may_split-clause-applied c =
     let t = c.args.tables.now in
-    let spot = c.in-Some.spot in
-    let row = row_seen t.cuts.items spot.row in
+    let row = row_seen t.cuts.items c.in-Some.spot.row in
     let cut = c.args.cut.now in
-    let may = is_running row.state && (is_before row.from cut && is_below cut row.to) in
-    let not_may : may ≡ false =
-    sym (c.may_split.ensures ∙ ap (λ (l : List ℕ). is_running row.state && (is_before row.from l && is_below l row.to)) c.as_slice.ensures) ∙ c.if-not-may_split.true in
-    refused t spot (λ r. r.number == c.args.row) (Split c.args.row (length t.cuts.items)) (Some cut) (λ r. refl) c.in-Some.ensures
-    (where_fails (is_next_cut (seen t) (length t.cuts.items) && may) (part_below cut row.state row ∷ drop_above (seen t).best (part_from cut (length (seen t).rows) row) ∷ [])
-    (and_fails (is_next_cut (seen t) (length t.cuts.items)) may not_may))
+    refused_listed t c.in-Some.spot c.args.row (Split c.args.row (length c.args.tables.now.cuts.items)) (Some cut) (λ r. refl) c.in-Some.ensures (may_split cut row) (part_below cut row.state row ∷ drop_above (seen t).best (part_from cut (length (seen t).rows) row) ∷ []) refl
+    (sym (c.may_split.ensures ∙ ap (λ (l : List ℕ). may_split l row) c.as_slice.ensures) ∙ c.if-not-may_split.true)
+
+pub returns-in_err-make_room-clause-memory : goal.returns-in_err-make_room-clause-memory
+returns-in_err-make_room-clause-memory c =
+    let t = c.args.tables.now in
+    let row = row_seen t.cuts.items c.in-Some.spot.row in
+    let cut = c.args.cut.now in
+    any_err c.from_residual.result (allowed_listed t c.in-Some.spot c.args.row (Split c.args.row (length c.args.tables.now.cuts.items)) (Some cut) (λ r. refl) c.in-Some.ensures (may_split cut row) (part_below cut row.state row ∷ drop_above (seen t).best (part_from cut (length (seen t).rows) row) ∷ []) refl
+    (sym (c.may_split.ensures ∙ ap (λ (l : List ℕ). may_split l row) c.as_slice.ensures) ∙ c.if-not-may_split.false))
+
+pub returns-in_err-copy-clause-memory : goal.returns-in_err-copy-clause-memory
+returns-in_err-copy-clause-memory c =
+    let t = c.args.tables.now in
+    let row = row_seen t.cuts.items c.in-Some.spot.row in
+    let cut = c.args.cut.now in
+    any_err c.from_residual-in_err-copy.result (allowed_listed t c.in-Some.spot c.args.row (Split c.args.row (length c.args.tables.now.cuts.items)) (Some cut) (λ r. refl) c.in-Some.ensures (may_split cut row) (part_below cut row.state row ∷ drop_above (seen t).best (part_from cut (length (seen t).rows) row) ∷ []) refl
+    (sym (c.may_split.ensures ∙ ap (λ (l : List ℕ). may_split l row) c.as_slice.ensures) ∙ c.if-not-may_split.false))

@@ -1,5 +1,5 @@
 use Rattle.std.proofs.Common.{arith}
-use Rattle.pm_book.specs.Seen.{dropped}
+use Rattle.pm_book.specs.Inside.Seen.{dropped}
 use Rattle.pm_book.proofs.PutRows.{written_more}
 use Rattle.pm_book.proofs.tables.drop_rows.Goals as goal
 

@@ -1,5 +1,5 @@
 use Rattle.std.proofs.Common.{◌≡◌, ◌++◌, map, take, drop, vec_len, vec_capacity}
-use Rattle.pm_book.specs.Seen.{dropped}
+use Rattle.pm_book.specs.Inside.Seen.{dropped}
 use Rattle.pm_book.proofs.tables.drop_rows.Given as goal
 
 abbrev pub invariant-loop-k : goal.invariant-loop-k

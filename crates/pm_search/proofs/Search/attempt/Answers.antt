@@ -1,6 +1,6 @@
 use Rattle.std.proofs.Common.{◌+◌, ◌∙◌, refl, sym}
 use Rattle.std.specs.Prelude.{IsSome}
-use Rattle.pm_search.specs.Places.{next_of, HasPassed}
+use Rattle.pm_search.specs.Inside.Places.{next_of, HasPassed}
 use Rattle.pm_search.proofs.AgreeLemmas.{holds_agrees, agree_sym}
 use Rattle.pm_search.proofs.StandingLemmas.{at_next, finds_next, passed_more, passed_agrees, holds_settled, holds_kept}
 use Rattle.pm_search.proofs.Search.attempt.Goals as goal

@@ -4,7 +4,7 @@ use Rattle.std.proofs.lemmas.List.{take_more}
 use Rattle.pm_choice.specs.Order.{Precedes, PrecedesBound}
 use Rattle.pm_search.specs.Cuts.{IsCut}
 use Rattle.pm_search.specs.Turns.{Pauses}
-use Rattle.pm_search.specs.Places.{next_of, IsPlace}
+use Rattle.pm_search.specs.Inside.Places.{next_of, IsSearchPlace}
 use Rattle.pm_search.proofs.StandingLemmas.{at_next}
 use Rattle.pm_search.proofs.CutLemmas.{next_fits, cut_above, cut_here, none_here, none_fits, next_is, popped}
 use Rattle.pm_search.proofs.Search.cut.Goals as goal
@@ -15,7 +15,7 @@ has_next g c =
     let told : c.is_attempting.result ≡ true = c.if-not-is_attempting.false in
     rw (← c.self.view_is) at (c.is_attempting.ensures.0 told)
 
-stands : (g : _) (c : At-places g) → IsPlace (g.S.Space.key c.self.inside.space) (g.S.Space.path c.self.inside.space) c.self.inside.place.items c.self.inside.widths.items × Pauses (g.S.Space.key c.self.inside.space) c.self.inside.from c.self.inside.to c.self.inside.place.items c.self.inside.worked
+stands : (g : _) (c : At-places g) → IsSearchPlace (g.S.Space.key c.self.inside.space) (g.S.Space.path c.self.inside.space) c.self.inside.place.items c.self.inside.widths.items × Pauses (g.S.Space.key c.self.inside.space) c.self.inside.from c.self.inside.to c.self.inside.place.items c.self.inside.worked
 stands g c = at_next (g.S.Space.key c.self.inside.space) (g.S.Space.path c.self.inside.space) c.self.inside.place.items c.self.inside.widths.items c.self.inside.from c.self.inside.to c.self.inside.worked c.self.inside.stage (has_next g c) c.self.invariant
 
 pub overflow_add-choice : goal.overflow_add-choice

@@ -1,6 +1,6 @@
 use Rattle.std.proofs.Common.{ℕ, ◌+◌, subst, sym}
 use Rattle.std.specs.Prelude.{IsSome}
-use Rattle.pm_search.specs.Places.{next_of, Holds}
+use Rattle.pm_search.specs.Inside.Places.{next_of, Holds}
 use Rattle.pm_search.proofs.AgreeLemmas.{holds_agrees, agree_sym}
 use Rattle.pm_search.proofs.StandingLemmas.{at_next, passed_hopeless, holds_settled}
 use Rattle.pm_search.proofs.Search.pass.Goals as goal

@@ -1,7 +1,7 @@
 use Rattle.std.proofs.Common.{◌≡◌, ◌+◌, ◌≤◌, ◌∙◌, sym, ap, arith}
 use Rattle.std.specs.Prelude.{IsSome}
 use Rattle.std.proofs.lemmas.Result.{IfOk-weaker}
-use Rattle.pm_search.specs.Standing.{EndsTurn}
+use Rattle.pm_search.specs.Inside.Moves.{EndsTurn}
 use Rattle.pm_search.specs.Turns.{IsTurn}
 use Rattle.pm_search.proofs.AgreeLemmas.{agree_trans, turn_agrees}
 use Rattle.pm_search.proofs.StandingLemmas.{found_turn, stops}

@@ -1,4 +1,4 @@
-use Rattle.pm_search.specs.Places.{Holds}
+use Rattle.pm_search.specs.Inside.Places.{Holds}
 use Rattle.pm_search.proofs.AgreeLemmas.{agree_sym, holds_agrees}
 use Rattle.pm_search.proofs.StandingLemmas.{sought, is_ahead, same_below_agrees, is_ahead_agrees}
 use Rattle.pm_search.proofs.Search.seek.Goals as goal

@@ -1,6 +1,6 @@
 use Rattle.std.proofs.Common.{◌≡◌, ℕ, ◌+◌, ◌∙◌, Bool, true, List, [], ◌∷◌, ◌++◌, get_or, MatchBool, refl, subst, sym, ap, arith}
 use Rattle.std.proofs.lemmas.List.{take_more}
-use Rattle.pm_search.specs.Places.{SameBelow}
+use Rattle.pm_search.specs.Inside.Places.{SameBelow}
 use Rattle.pm_search.proofs.AgreeLemmas.{agree_trans}
 use Rattle.pm_search.proofs.DescendLemmas.{parted, same_at_end, same_at_miss, stop_at, walk_on}
 use Rattle.pm_search.proofs.place.descend.Goals as goal

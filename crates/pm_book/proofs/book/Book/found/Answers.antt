@@ -2,8 +2,8 @@ use Rattle.std.proofs.Common.{subst, true, false, length}
 use Rattle.std.specs.Prelude.{Some}
 use Rattle.pm_book.specs.declared.event.Event.TheVariants.{Found}
 use Rattle.pm_book.specs.declared.ticket.Ended.TheVariants.{Kept, Dropped}
-use Rattle.pm_book.specs.Rows.{State}
-use Rattle.pm_book.specs.Seen.{seen}
+use Rattle.pm_book.specs.Rows.{BookState}
+use Rattle.pm_book.specs.Inside.Seen.{seen}
 use Rattle.pm_book.specs.Answers.{HasEnded}
 use Rattle.pm_book.proofs.BookLemmas.{always_of, sound_step, end_fact, spot_holds}
 use Rattle.pm_book.proofs.book.Book.found.Goals as goal
@@ -23,7 +23,7 @@ invariant_of-self c =
 
 pub returns-then-find : goal.returns-then-find
 returns-then-find c =
-    subst (λ (b : State). HasEnded b c.args.ticket (Found c.args.ticket.number (length b.cuts) c.args.work) (Some c.args.path) (seen c.find.new.self) Dropped) c.self.view_is
+    subst (λ (b : BookState). HasEnded b c.args.ticket (Found c.args.ticket.number (length b.cuts) c.args.work) (Some c.args.path) (seen c.find.new.self) Dropped) c.self.view_is
     (end_fact c.self.inside.tables c.find.new.self c.args.ticket c.in-Some.spot c.find.result true (λ n. Found n (length c.self.inside.tables.cuts.items) c.args.work) (Some c.args.path) c.in-Some.ensures c.find.ensures.above c.if-find.true c.find.ensures.step)
 
 pub invariant_of-self-2 : goal.invariant_of-self-2
@@ -32,5 +32,5 @@ invariant_of-self-2 c =
 
 pub returns : goal.returns
 returns c =
-    subst (λ (b : State). HasEnded b c.args.ticket (Found c.args.ticket.number (length b.cuts) c.args.work) (Some c.args.path) (seen c.find.new.self) Kept) c.self.view_is
+    subst (λ (b : BookState). HasEnded b c.args.ticket (Found c.args.ticket.number (length b.cuts) c.args.work) (Some c.args.path) (seen c.find.new.self) Kept) c.self.view_is
     (end_fact c.self.inside.tables c.find.new.self c.args.ticket c.in-Some.spot c.find.result false (λ n. Found n (length c.self.inside.tables.cuts.items) c.args.work) (Some c.args.path) c.in-Some.ensures c.find.ensures.above c.if-find.false c.find.ensures.step)

@@ -1,17 +1,17 @@
 use Rattle.std.proofs.Common.{◌≡◌, ◌∙◌, ℕ, ap, subst, refl}
 use Rattle.std.specs.Prelude.{None}
 use Rattle.pm_book.specs.declared.event.Event.TheVariants.{Took}
-use Rattle.pm_book.specs.Rows.{State, Span, is_queued}
+use Rattle.pm_book.specs.Rows.{BookState, Span, is_queued}
 use Rattle.pm_book.specs.Steps.{step}
-use Rattle.pm_book.specs.Seen.{seen}
-use Rattle.pm_book.specs.Answers.{IsOver, NoneQueued}
+use Rattle.pm_book.specs.Inside.Seen.{seen}
+use Rattle.pm_book.specs.Answers.{IsBookOver, NoneQueued}
 use Rattle.pm_book.proofs.BookLemmas.{sound_step, any_err, started, not_over, first_queued, no_queued, none_queued, one_queued, ready}
 use Rattle.pm_book.proofs.book.Book.take.Goals as goal
 
 pub returns-in_default-clause-ok : goal.returns-in_default-clause-ok
 returns-in_default-clause-ok c =
     let old = c.self.inside.tables in (
-      subst (λ (b : State). ¬ IsOver b) c.self.view_is (not_over old c.survey-survey.result c.is_over.result c.survey-survey.ensures c.is_over.ensures c.if-is_over.false),
+      subst (λ (b : BookState). ¬ IsBookOver b) c.self.view_is (not_over old c.survey-survey.result c.is_over.result c.survey-survey.ensures c.is_over.ensures c.if-is_over.false),
       subst NoneQueued c.self.view_is (none_queued old (no_queued old c.survey-survey.result c.survey-survey.ensures c.in_default.is)),
       refl,
     )
@@ -21,8 +21,8 @@ returns-in_err-make_room-clause-err c =
     let old = c.self.inside.tables in
     let first = first_queued old c.survey-survey.result c.in-Some.spot c.survey-survey.ensures c.in-Some.is in
     any_err c.from_residual.result (
-      subst (λ (b : State). ¬ IsOver b) c.self.view_is (not_over old c.survey-survey.result c.is_over.result c.survey-survey.ensures c.is_over.ensures c.if-is_over.false),
-      subst (λ (b : State). ¬ NoneQueued b) c.self.view_is (one_queued old c.in-Some.spot first.there first.passes),
+      subst (λ (b : BookState). ¬ IsBookOver b) c.self.view_is (not_over old c.survey-survey.result c.is_over.result c.survey-survey.ensures c.is_over.ensures c.if-is_over.false),
+      subst (λ (b : BookState). ¬ NoneQueued b) c.self.view_is (one_queued old c.in-Some.spot first.there first.passes),
       c.in_err-make_room.ensures.seen ∙ c.self.view_is,
     )
 
@@ -43,8 +43,8 @@ returns-in_err-ticket-clause-err c =
     let old = c.self.inside.tables in
     let first = first_queued old c.survey-survey.result c.in-Some.spot c.survey-survey.ensures c.in-Some.is in
     any_err c.from_residual-in_err-ticket.result (
-      subst (λ (b : State). ¬ IsOver b) c.self.view_is (not_over old c.survey-survey.result c.is_over.result c.survey-survey.ensures c.is_over.ensures c.if-is_over.false),
-      subst (λ (b : State). ¬ NoneQueued b) c.self.view_is (one_queued old c.in-Some.spot first.there first.passes),
+      subst (λ (b : BookState). ¬ IsBookOver b) c.self.view_is (not_over old c.survey-survey.result c.is_over.result c.survey-survey.ensures c.is_over.ensures c.if-is_over.false),
+      subst (λ (b : BookState). ¬ NoneQueued b) c.self.view_is (one_queued old c.in-Some.spot first.there first.passes),
       c.in_ok-make_room.ensures.seen ∙ c.self.view_is,
     )
 
@@ -64,7 +64,7 @@ returns-clause-ok c =
     let room = c.in_ok-make_room.ensures in
     let made = ready old mid (λ row. is_queued row.state) spot c.self.invariant (first_queued old c.survey-survey.result spot c.survey-survey.ensures c.in-Some.is) room.kept room.rows room.seen in
     let number : c.in_ok-ticket.ticket.number ≡ spot.row.number = ap (λ (s : Span). s.number) c.in_ok-ticket.ensures in (
-      subst (λ (b : State). ¬ IsOver b) c.self.view_is (not_over old c.survey-survey.result c.is_over.result c.survey-survey.ensures c.is_over.ensures c.if-is_over.false),
+      subst (λ (b : BookState). ¬ IsBookOver b) c.self.view_is (not_over old c.survey-survey.result c.is_over.result c.survey-survey.ensures c.is_over.ensures c.if-is_over.false),
       started c.args.self.now mid c.take.new.self spot (λ row. is_queued row.state) (Took c.args.worker c.in_ok-ticket.ticket.number) c.in_ok-ticket.ticket (room.seen ∙ c.self.view_is) (λ r. refl) made.first c.in_ok-ticket.ensures
           (ap (λ (n : ℕ). step (seen mid) (Took c.args.worker n) None) number ∙ c.take.ensures.step),
     )

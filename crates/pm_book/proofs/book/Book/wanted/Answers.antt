@@ -1,6 +1,6 @@
 use Rattle.std.proofs.Common.{◌∙◌, ap, List, ℕ}
 use Rattle.pm_book.specs.Rows.{is_above}
-use Rattle.pm_book.specs.Seen.{seen}
+use Rattle.pm_book.specs.Inside.Seen.{seen}
 use Rattle.pm_book.proofs.BookLemmas.{always_of, wanted_is}
 use Rattle.pm_book.proofs.book.Book.wanted.Goals as goal
 

@@ -1,6 +1,6 @@
 use Rattle.std.proofs.Common.{◌∙◌, ap, List, ℕ, false}
 use Rattle.pm_book.specs.Rows.{is_above, is_running}
-use Rattle.pm_book.specs.Seen.{seen}
+use Rattle.pm_book.specs.Inside.Seen.{seen}
 use Rattle.pm_book.proofs.Moves.{close_step, end_room, done_stops, spot_place}
 use Rattle.pm_book.proofs.tables.Tables.close.Goals as goal
 

@@ -6,7 +6,7 @@ use Rattle.pm_book.specs.declared.row.RowState.TheVariants.{Done}
 use Rattle.pm_book.specs.declared.tables.Tables.{Tables}
 use Rattle.pm_book.specs.Rows.{is_above, is_running}
 use Rattle.pm_book.specs.Steps.{with_best}
-use Rattle.pm_book.specs.Seen.{seen, done_unless}
+use Rattle.pm_book.specs.Inside.Seen.{seen, done_unless}
 use Rattle.pm_book.proofs.Moves.{find_step, end_room, done_stops, spot_place}
 use Rattle.pm_book.proofs.FoundRows.{HasFound, found_seen, found_places, found_running, put_long}
 use Rattle.pm_book.proofs.tables.Tables.find.Goals as goal

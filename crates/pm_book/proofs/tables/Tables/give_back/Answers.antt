@@ -1,7 +1,8 @@
 use Rattle.std.proofs.Common.{◌∙◌, ap, List, ℕ, false, refl, sym}
 use Rattle.pm_book.specs.declared.row.RowState.TheVariants.{Queued, Done}
 use Rattle.pm_book.specs.Rows.{is_above, is_before, is_running}
-use Rattle.pm_book.specs.Seen.{seen, lower}
+use Rattle.pm_book.specs.Shown.{lower}
+use Rattle.pm_book.specs.Inside.Seen.{seen}
 use Rattle.pm_book.proofs.Moves.{queue_step, return_step, end_room, queued_stops, spot_place, two_places}
 use Rattle.pm_book.proofs.OrderTests.{whole_is, parted_is}
 use Rattle.pm_book.proofs.tables.Tables.give_back.Goals as goal

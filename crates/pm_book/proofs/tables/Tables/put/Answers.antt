@@ -3,7 +3,7 @@ use Rattle.std.specs.Prelude.{◌∷◌}
 use Rattle.std.specs.Option.{option_to_list}
 use Rattle.std.proofs.lemmas.Option.{slice_get_within}
 use Rattle.pm_book.specs.declared.tables.Tables.{Tables}
-use Rattle.pm_book.specs.Seen.{HasPut}
+use Rattle.pm_book.specs.Inside.Seen.{HasPut}
 use Rattle.pm_book.proofs.PutRows.{put_after, one_at_most}
 use Rattle.pm_book.proofs.Places.{running_least, running_after, places_after, best_place_after}
 use Rattle.pm_book.proofs.tables.Tables.put.Goals as goal

@@ -4,7 +4,8 @@ use Rattle.std.specs.List.{sum_by}
 use Rattle.pm_book.specs.declared.row.RowState.TheVariants.{Queued}
 use Rattle.pm_book.specs.declared.row.BookRow.{BookRow}
 use Rattle.pm_book.specs.Rows.{is_above, is_queued, is_open, counted_work, Row}
-use Rattle.pm_book.specs.Seen.{seen, lower, row_seen, IsFirstSpot, work_unless, open_unless}
+use Rattle.pm_book.specs.Shown.{lower, row_seen}
+use Rattle.pm_book.specs.Inside.Seen.{seen, IsFirstSpot, work_unless, open_unless}
 use Rattle.pm_book.proofs.PutRows.{take_whole}
 use Rattle.pm_book.proofs.Surveyed.{spent_more, queued_more, open_more}
 use Rattle.pm_book.proofs.tables.Tables.survey.Goals as goal

@@ -2,7 +2,8 @@ use Rattle.std.proofs.Common.{◌≡◌, ◌*◌, ◌^◌, ◌≤◌, take, map,
 use Rattle.std.specs.Prelude.{All, MatchOption, IsFalse, ◌↔◌}
 use Rattle.std.specs.List.{sum_by}
 use Rattle.pm_book.specs.Rows.{counted_work, is_open, is_queued}
-use Rattle.pm_book.specs.Seen.{row_seen, seen, IsFirstSpot}
+use Rattle.pm_book.specs.Shown.{row_seen}
+use Rattle.pm_book.specs.Inside.Seen.{seen, IsFirstSpot}
 use Rattle.pm_book.proofs.tables.Tables.survey.Given as goal
 
 abbrev pub invariant-loop-place : goal.invariant-loop-place

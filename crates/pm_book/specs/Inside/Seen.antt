@@ -1,9 +1,7 @@
 -- How the tables of a book stand for its rows, and what they keep.
-use Rattle.std.specs.Prelude.{◌≡◌, ℕ, ◌+◌, ◌<◌, ◌≤◌, Bool, true, false, ◌&&◌, ◌||◌, ◌==◌, ◌↔◌, not, if◌then◌else◌, IsFalse, MatchOption, List, [], ◌∷◌, ◌++◌, map, length, take, drop, Option, Some, None, option_map, slice_get, slice_index_or, All, vec_len, vec_capacity}
+use Rattle.std.specs.Prelude.{◌≡◌, ℕ, ◌+◌, ◌≤◌, Bool, true, false, ◌&&◌, ◌||◌, ◌==◌, ◌↔◌, not, if◌then◌else◌, IsFalse, MatchOption, List, [], ◌∷◌, ◌++◌, map, length, take, drop, Option, Some, option_map, slice_get, slice_index_or, All, vec_len, vec_capacity}
 use Rattle.std.specs.List.{count_by}
 use Rattle.std.specs.Option.{option_to_list}
-use Rattle.pm_choice.specs.declared.Bound.{Bound}
-use Rattle.pm_choice.specs.declared.Bound.TheVariants.{At, End}
 use Rattle.pm_book.specs.declared.row.RowState.{RowState}
 use Rattle.pm_book.specs.declared.row.RowState.TheVariants.{Queued, Done, Dropped}
 use Rattle.pm_book.specs.declared.row.BookRow.{BookRow}
@@ -12,26 +10,15 @@ use Rattle.pm_book.specs.declared.tables.Tables.{Tables}
 use Rattle.pm_book.specs.declared.tables.Spot.{Spot}
 use Rattle.pm_book.specs.declared.tables.Survey.{Survey}
 use Rattle.pm_book.specs.Steps.{IsReplay}
-use Rattle.pm_book.specs.Rows.{Row, State, is_running, is_queued, work_of, spent, is_open}
+use Rattle.pm_book.specs.Rows.{BookState, Span, span_of, is_running, is_queued, work_of, spent, is_open}
+use Rattle.pm_book.specs.Shown.{row_seen, IsCutPlace, HasPlaces}
 
--- the lower end of a row, from its place among the cuts
-abbrev pub lower : List (List ℕ) → Option ℕ → List ℕ
-lower cuts None = []
-lower cuts (Some place) = slice_index_or cuts place []
-
--- the upper end of a row
-abbrev pub upper : List (List ℕ) → Option ℕ → Bound
-upper cuts None = End
-upper cuts (Some place) = At (slice_index_or cuts place [])
-
-abbrev pub row_seen : List (List ℕ) → BookRow → Row
-row_seen cuts row = record { number = row.number; from = lower cuts row.from; to = upper cuts row.to; state = row.state }
-
+-- the best path, from its place among the cuts
 abbrev pub best_seen : List (List ℕ) → Option ℕ → Option (List ℕ)
 best_seen cuts best = option_map (λ place. slice_index_or cuts place []) best
 
 -- the book that tables stand for
-abbrev pub seen : Tables → State
+abbrev pub seen : Tables → BookState
 seen t = record {
   rows = map (row_seen t.cuts.items) t.rows.items;
   best = best_seen t.cuts.items t.best;
@@ -39,15 +26,6 @@ seen t = record {
   cuts = t.cuts.items;
   events = t.events.items;
 }
-
--- a place is one of so many cuts, where there is one
-abbrev pub IsPlace : ℕ → Option ℕ → Type 0
-IsPlace count None = Unit {0}
-IsPlace count (Some place) = place < count
-
-pub record HasPlaces (count : ℕ) (row : BookRow) : Type 0 where
-  pub from : IsPlace count row.from
-  pub to : IsPlace count row.to
 
 -- 1 of a Running row, 0 of others
 abbrev pub running_of : RowState → ℕ
@@ -59,11 +37,11 @@ pub record HasRoom (t : Tables) (more : ℕ) : Type 0 where
   pub cuts : vec_len t.cuts + more ≤ vec_capacity t.cuts
   pub events : vec_len t.events + more ≤ vec_capacity t.events
 
--- What tables keep: the places of rows and of best are among the cuts, the Running rows are counted, and
--- there is room for one end of each.
+-- What tables keep: the places of rows and of best are among the cuts, the Running rows are
+-- counted, and there is room for one end of each.
 pub record AreKept (t : Tables) : Type 0 where
   pub places : All (HasPlaces (length t.cuts.items)) t.rows.items
-  pub best : IsPlace (length t.cuts.items) t.best
+  pub best : IsCutPlace (length t.cuts.items) t.best
   pub running : t.running ≡ count_by (λ row. is_running row.state) t.rows.items
   pub room : HasRoom t t.running
 
@@ -74,8 +52,10 @@ pub record IsFirstSpot (test : BookRow → Bool) (rows : List BookRow) (spot : S
   pub first : All (λ row. test row ≡ false) (take spot.place rows)
 
 -- rows took the place of a row, and an event was recorded with the list that it names
-pub record HasPut (old new : Tables) (place : ℕ) (rows : List BookRow) (cut : Option (List ℕ)) (event : Event) : Type 0 where
-  pub rows_are : new.rows.items ≡ take place old.rows.items ++ (rows ++ drop (place + 1) old.rows.items)
+pub record HasPut (old new : Tables) (place : ℕ) (rows : List BookRow) (cut : Option (List ℕ))
+    (event : Event) : Type 0 where
+  pub rows_are :
+      new.rows.items ≡ take place old.rows.items ++ (rows ++ drop (place + 1) old.rows.items)
   pub cuts_are : new.cuts.items ≡ old.cuts.items ++ option_to_list cut
   pub events_are : new.events.items ≡ old.events.items ++ event ∷ []
   pub best_is : new.best ≡ old.best
@@ -103,7 +83,10 @@ done_unless above work found = if above then Dropped else Done work found
 -- what a pass over the rows tells
 pub record Surveys (t : Tables) (survey : Survey) : Type 0 where
   pub spent_is : survey.spent ≡ spent (seen t)
-  pub queued_is : MatchOption survey.queued (All (λ row. is_queued row.state ≡ false) t.rows.items) (IsFirstSpot (λ row. is_queued row.state) t.rows.items)
+  pub queued_is :
+      MatchOption survey.queued
+      (All (λ row. is_queued row.state ≡ false) t.rows.items)
+      (IsFirstSpot (λ row. is_queued row.state) t.rows.items)
   pub open_is : IsFalse survey.open ↔ All (λ row. is_open (seen t).best row ≡ false) (seen t).rows
 
 -- a spot is that of a Running row, the first of its number
@@ -111,7 +94,12 @@ pub record IsRunningSpot (t : Tables) (spot : Spot) : Type 0 where
   pub first : IsFirstSpot (λ row. row.number == spot.row.number) t.rows.items spot
   pub runs : is_running spot.row.state ≡ true
 
+-- a spot is that of a ticket's row
+pub record IsSpotOf (t : Tables) (ticket : Span) (spot : Spot) : Type 0 where
+  pub running : IsRunningSpot t spot
+  pub is : span_of (row_seen t.cuts.items spot.row) ≡ ticket
+
 -- what holds of the tables of a book: they are kept, and stand for the replay of their own history
-pub record IsSound (t : Tables) : Type 0 where
+pub record AreSoundTables (t : Tables) : Type 0 where
   pub kept : AreKept t
   pub replay : IsReplay (seen t)
