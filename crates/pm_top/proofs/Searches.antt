@@ -55,7 +55,7 @@ proved_tableau : (problem : Problem) (works : List ℕ) (end : DeepEnd) (tableau
 proved_tableau problem works (Proof level path work) None h = absurd h.goes
 proved_tableau problem works (Proof level path work) (Some t) h =
     let found = h.search.ends in
-    proof_at problem works level work path t h.search.exhausted found.0 found.2.first.complete h.goes
+    proof_at problem works level work path t h.search.exhausted found.0 found.2.first.marked h.goes
 proved_tableau problem works DepthReached None h = tt
 proved_tableau problem works DepthReached (Some t) h = absurd h.goes
 proved_tableau problem works (BudgetOut level) None h = tt

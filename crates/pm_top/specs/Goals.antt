@@ -1,5 +1,5 @@
--- What the code keeps of a tableau whose predicates have no arguments, and how a step changes it: only the
--- unclosed leaves, each with the faces above it.
+-- What the code keeps of a tableau whose predicates have no arguments, and how a step changes it:
+-- only the unclosed leaves, each with the faces above it.
 use Rattle.std.specs.Prelude.{ℕ, zero, suc, ◌+◌, Bool, false, cond, not, ◌&&◌, ◌||◌, List, [], ◌∷◌, ◌++◌, length, map, filter, Option, Some, None, slice_get, nat_lt, ◌==◌}
 use Rattle.std.specs.Bool.{beq}
 use Rattle.std.specs.List.{enumerate_from, flat_map, fold, remove}
@@ -23,10 +23,13 @@ clause_faces problem clause = option_map_or faces_of (slice_get problem.clauses 
 
 -- the same predicate with the other sign
 abbrev pub are_opposite : Face → Face → Bool
-are_opposite face other = not (beq face.positive other.positive) && (face.predicate == other.predicate)
+are_opposite face other =
+    not (beq face.positive other.positive) && (face.predicate == other.predicate)
 
 abbrev pub clause_heads : ℕ × List Face → List Head
-clause_heads indexed = map (λ (p : ℕ × Face). record { clause = indexed.0; literal = p.0; face = p.1 }) (enumerate_from 0 indexed.1)
+clause_heads indexed =
+    map (λ (p : ℕ × Face). record { clause = indexed.0; literal = p.0; face = p.1 })
+    (enumerate_from 0 indexed.1)
 
 -- each literal of each clause, by clause index and then by literal index
 abbrev pub heads_of : Problem → List Head
@@ -55,7 +58,8 @@ opposite_heads problem leaf = filter (λ (h : Head). are_opposite h.face leaf) (
 -- an extension at each literal opposite to the leaf, only above the level's depth
 abbrev pub extensions : Problem → ℕ → Goal → List Step
 extensions problem level goal =
-    cond (nat_lt (depth goal) level) (map (λ (h : Head). Extend h.clause h.literal) (opposite_heads problem goal.leaf)) []
+    cond (nat_lt (depth goal) level)
+    (map (λ (h : Head). Extend h.clause h.literal) (opposite_heads problem goal.leaf)) []
 
 abbrev pub alternatives : Problem → Rule → ℕ → State → List Step
 alternatives problem start level unstarted = map Start (start_clauses start problem.clauses)
@@ -84,25 +88,34 @@ after problem level unstarted (Start clause) =
     let faces = clause_faces problem clause in
     cond (has_room level faces) (Some (goals (goals_below [] faces))) None
 after problem level (goals (g ∷ gs)) (Extend clause literal) =
-    Some (goals (goals_below (g.above ++ g.leaf ∷ []) (remove (clause_faces problem clause) literal) ++ gs))
+    Some (goals (goals_below (g.above ++ g.leaf ∷ []) (remove (clause_faces problem clause) literal)
+    ++ gs))
 after problem level (goals (g ∷ gs)) (Reduce at) = cond (closes g at) (Some (goals gs)) None
 after problem level _ _ = None
 
 -- the state after one choice more
 abbrev pub next_state : Problem → Rule → ℕ → Option State → ℕ → Option State
 next_state problem start level state choice =
-    option_and_then (λ s. option_and_then (after problem level s) (slice_get (alternatives problem start level s) choice)) state
+    option_and_then
+    (λ s. option_and_then (after problem level s)
+    (slice_get (alternatives problem start level s) choice)) state
 
--- the state after a choice list, where each choice is an alternative of its place and its step can be taken
+-- the state after a choice list, where each choice is an alternative of its place and its step can
+-- be taken
 abbrev pub state_after : Problem → Rule → ℕ → List ℕ → Option State
-state_after problem start level choices = fold (next_state problem start level) (Some unstarted) choices
+state_after problem start level choices =
+    fold (next_state problem start level) (Some unstarted) choices
 
 -- the steps that choices name from a state on, as far as they name any
 abbrev pub steps_from : Problem → Rule → ℕ → State → List ℕ → List Step
 steps_from problem start level state [] = []
 steps_from problem start level state (choice ∷ choices) =
-    option_map_or (λ step. step ∷ option_map_or (λ next. steps_from problem start level next choices) (after problem level state step) [])
+    option_map_or
+    (λ step. step
+    ∷ option_map_or (λ next. steps_from problem start level next choices)
+    (after problem level state step) [])
     (slice_get (alternatives problem start level state) choice) []
 
 abbrev pub width_of : Problem → Rule → ℕ → Option State → ℕ
-width_of problem start level state = option_map_or (λ s. length (alternatives problem start level s)) state 0
+width_of problem start level state =
+    option_map_or (λ s. length (alternatives problem start level s)) state 0

@@ -27,24 +27,30 @@ use Rattle.pm_top.specs.Arguments.{HasNoArguments}
 use Rattle.pm_top.specs.Text.{gave_up, resource_out, bad_words, input_error, arguments_not_built, too_long}
 use Rattle.pm_top.specs.Certificate.{proof_text}
 
--- what a run learns of its file: the words are no job, these are the job and the file's bytes, or the file is
--- over the limit
+-- what a run learns of its file: the words are no job, these are the job and the file's bytes, or
+-- the file is over the limit
 pub data Fetched : Type 0 where
   no_file : Fetched
   these_bytes : Job → List ℕ → Fetched
   over_limit : Fetched
 
--- It learnt this of the words and, where the library tells its files, of the file; and it learns that a
--- file is over the limit only where the library's count of such files rose. (Its values before and after
--- the run are `longs`.)
+-- It learnt this of the words and, where the library tells its files, of the file; and it learns
+-- that a file is over the limit only where the library's count of such files rose. (Its values
+-- before and after the run are `longs`.)
 abbrev pub HasLearnt : List (List ℕ) → Option Files → ℕ × ℕ → Fetched → Type 0
 HasLearnt words told longs no_file = IsNone (job_of words)
-HasLearnt words told longs (these_bytes job bytes) = (job_of words ≡ Some job) × (length bytes ≤ MAX_FILE_BYTES) × IfSome told (λ files. map.get files (file_of job) ≡ Some bytes)
-HasLearnt words told longs over_limit = Rose longs.0 longs.1 × IsSomeAnd (job_of words) (λ job. IfSome told (λ files. IsSomeAnd (map.get files (file_of job)) (λ bytes. MAX_FILE_BYTES < length bytes)))
+HasLearnt words told longs (these_bytes job bytes) =
+    (job_of words ≡ Some job) × (length bytes ≤ MAX_FILE_BYTES)
+    × IfSome told (λ files. map.get files (file_of job) ≡ Some bytes)
+HasLearnt words told longs over_limit =
+    Rose longs.0 longs.1
+    × IsSomeAnd (job_of words) (λ job. IfSome told (λ files.
+    IsSomeAnd (map.get files (file_of job)) (λ bytes. MAX_FILE_BYTES < length bytes)))
 
 -- the limits of every clause file
 abbrev pub standard_limits : Limits
-standard_limits = record { clauses = 65536; literals = 255; variables = 1000; arity = 255; nesting = 1000 }
+standard_limits =
+    record { clauses = 65536; literals = 255; variables = 1000; arity = 255; nesting = 1000 }
 
 -- what a problem is searched with
 abbrev pub standard : Options
@@ -62,20 +68,23 @@ status_of (BudgetOut level) = ends.Budget
 
 -- a tableau goes with a proof alone
 abbrev pub text_of : Problem → List ℕ → DeepEnd → Option Tableau → List ℕ
-text_of problem works (Proof level path work) (Some tableau) = proof_text problem.symbols tableau works work
+text_of problem works (Proof level path work) (Some tableau) =
+    proof_text problem.symbols tableau works work
 text_of problem works (Proof level path work) None = []
 text_of problem works DepthReached tableau = gave_up works
 text_of problem works (BudgetOut level) tableau = resource_out works
 
--- The tableau proves the problem unsatisfiable at this depth: it is a closed connection tableau of the
--- class, it is as deep as that, and under each truth assignment some clause instance of it is false.
+-- The tableau proves the problem unsatisfiable at this depth: it is a closed connection tableau of
+-- the class, it is as deep as that, and under each truth assignment some clause instance of it is
+-- false.
 pub record IsProofAt (problem : Problem) (level : ℕ) (tableau : Tableau) : Type 0 where
   pub member : IsInClass (level_of problem level) tableau
   pub deep : depth tableau ≡ level
   pub refuted : (atoms : List Atom) → HasFalseInstance problem.clauses tableau atoms
 
--- The search of a problem ends so: status and text are those of its answer. No level that is printed as
--- exhausted has a closed connection tableau, and a tableau that is printed is a proof at the next level.
+-- The search of a problem ends so: status and text are those of its answer. No level that is
+-- printed as exhausted has a closed connection tableau, and a tableau that is printed is a proof at
+-- the next level.
 pub record EndsSearch (problem : Problem) (status : Status) (text : List ℕ) : Type 0 where
   pub works : List ℕ
   pub end : DeepEnd
@@ -83,26 +92,34 @@ pub record EndsSearch (problem : Problem) (status : Status) (text : List ℕ) : 
   pub answer : IsAnswerOf problem standard works end tableau
   pub status_is : status ≡ status_of end
   pub text_is : text ≡ text_of problem works end tableau
-  pub exhausted : (level : ℕ) → level < length works → (member : Tableau) → IsInClass (level_of problem level) member → ⊥
+  pub exhausted :
+      (level : ℕ) → level < length works → (member : Tableau)
+      → IsInClass (level_of problem level) member → ⊥
   pub proved : IfSome tableau (IsProofAt problem (length works))
 
 -- the text names the first offence of the bytes and its place
 abbrev pub IsRefusal : List ℕ → List ℕ → Type 0
 IsRefusal bytes text =
-    (rest : List ℕ) × (kind : CnfKind) × IsFirstOffence standard_limits bytes rest kind × (text ≡ input_error (line_of (before bytes rest)) (column_of (before bytes rest)) kind)
+    (rest : List ℕ) × (kind : CnfKind) × IsFirstOffence standard_limits bytes rest kind
+    × (text ≡ input_error (line_of (before bytes rest)) (column_of (before bytes rest)) kind)
 
--- The status and text with which the proof of these bytes ends: they are refused exactly where they have an
--- offence, or where a kept literal has arguments.
+-- The status and text with which the proof of these bytes ends: they are refused exactly where they
+-- have an offence, or where a kept literal has arguments.
 abbrev pub EndsProof : List ℕ → Status → List ℕ → Type 0
 EndsProof bytes ends.BadInput text =
-    IsRefusal bytes text ⊎ ((problem : Problem) × IsProblemIn standard_limits bytes problem × (¬ HasNoArguments problem) × (text ≡ arguments_not_built))
-EndsProof bytes status text = (problem : Problem) × IsProblemIn standard_limits bytes problem × HasNoArguments problem × EndsSearch problem status text
+    IsRefusal bytes text
+    ⊎ ((problem : Problem) × IsProblemIn standard_limits bytes problem
+    × (¬ HasNoArguments problem) × (text ≡ arguments_not_built))
+EndsProof bytes status text =
+    (problem : Problem) × IsProblemIn standard_limits bytes problem × HasNoArguments problem
+    × EndsSearch problem status text
 
--- The status and text with which the writing of these bytes' clauses ends: they are refused exactly where
--- they have an offence.
+-- The status and text with which the writing of these bytes' clauses ends: they are refused exactly
+-- where they have an offence.
 abbrev pub EndsClauses : List ℕ → Status → List ℕ → Type 0
 EndsClauses bytes ends.BadInput text = IsRefusal bytes text
-EndsClauses bytes ends.Done text = (problem : Problem) × IsProblemIn standard_limits bytes problem × (text ≡ problem_text problem)
+EndsClauses bytes ends.Done text =
+    (problem : Problem) × IsProblemIn standard_limits bytes problem × (text ≡ problem_text problem)
 EndsClauses bytes status text = ⊥
 
 abbrev pub EndsJob : Job → List ℕ → Status → List ℕ → Type 0
@@ -118,26 +135,35 @@ IsOutput over_limit status text = ⊥
 IsOutput (these_bytes job bytes) status text = EndsJob job bytes status text
 
 -- a run's output: what it learnt, and the status and the text of that
-pub record Output (words : List (List ℕ)) (told : Option Files) (longs : ℕ × ℕ) (status : Status) (text : List ℕ) : Type 0 where
+pub record Output (words : List (List ℕ)) (told : Option Files) (longs : ℕ × ℕ)
+    (status : Status) (text : List ℕ) : Type 0 where
   pub fetched : Fetched
   pub learnt : HasLearnt words told longs fetched
   pub output : IsOutput fetched status text
 
 -- What has been written where a run ends so: nothing on a fault of reading and on want of memory, a
--- prefix of some output's text where the sink failed, and else the text of the output of this status.
-abbrev pub HasWritten : List (List ℕ) → Option Files → ℕ × ℕ → Option (List ℕ) → Option (List ℕ) → Status → Type 0
+-- prefix of some output's text where the sink failed, and else the text of the output of this
+-- status.
+abbrev pub HasWritten :
+    List (List ℕ) → Option Files → ℕ × ℕ → Option (List ℕ) → Option (List ℕ) → Status → Type 0
 HasWritten words told longs old new ends.Missing = new ≡ old
 HasWritten words told longs old new ends.ReadFault = new ≡ old
 HasWritten words told longs old new ends.NoMemory = new ≡ old
-HasWritten words told longs old new ends.WriteFault = (status : Status) × (text : List ℕ) × Output words told longs status text × AppendsPrefix old new text
-HasWritten words told longs old new status = (text : List ℕ) × Output words told longs status text × Appends old new text
+HasWritten words told longs old new ends.WriteFault =
+    (status : Status) × (text : List ℕ) × Output words told longs status text
+    × AppendsPrefix old new text
+HasWritten words told longs old new status =
+    (text : List ℕ) × Output words told longs status text × Appends old new text
 
 -- the file that the words name isn't among the told ones
 abbrev pub IsMissing : List (List ℕ) → Option Files → Type 0
-IsMissing words told = IsSomeAnd (job_of words) (λ job. IfSome told (λ files. map.get files (file_of job) ≡ None))
+IsMissing words told =
+    IsSomeAnd (job_of words) (λ job. IfSome told (λ files. map.get files (file_of job) ≡ None))
 
 -- words and files determine the status and the text
 abbrev pub OutputIsDetermined : Type 0
 OutputIsDetermined =
-    (words : List (List ℕ)) (files : Files) (longs longs_then : ℕ × ℕ) (status other : Status) (text second : List ℕ)
-    → Output words (Some files) longs status text → Output words (Some files) longs_then other second → (status ≡ other) × (text ≡ second)
+    (words : List (List ℕ)) (files : Files) (longs longs_then : ℕ × ℕ) (status other : Status)
+    (text second : List ℕ)
+    → Output words (Some files) longs status text
+    → Output words (Some files) longs_then other second → (status ≡ other) × (text ≡ second)

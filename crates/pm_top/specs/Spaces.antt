@@ -20,10 +20,12 @@ is_closed (Some (goals [])) = true
 is_closed (Some (goals (g ∷ gs))) = false
 
 abbrev pub frame_of : Problem → Rule → ℕ → Option State → Frame
-frame_of problem start level state = record { width = width_of problem start level state; complete = is_closed state }
+frame_of problem start level state =
+    record { width = width_of problem start level state; complete = is_closed state }
 
 -- the frames of the proper prefixes of a path, each behind the choices that came before it
 abbrev pub frames_before : Problem → Rule → ℕ → List ℕ → List ℕ → List Frame
 frames_before problem start level before [] = []
 frames_before problem start level before (choice ∷ choices) =
-    frame_of problem start level (state_after problem start level before) ∷ frames_before problem start level (before ++ choice ∷ []) choices
+    frame_of problem start level (state_after problem start level before)
+    ∷ frames_before problem start level (before ++ choice ∷ []) choices

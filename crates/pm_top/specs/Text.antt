@@ -5,7 +5,8 @@ use Rattle.pm_cnf.specs.Words.{kind_word}
 
 -- level d exhausted attempts N
 abbrev pub level_line : ℕ → ℕ → List ℕ
-level_line level work = codes "level " ++ decimal level ++ codes " exhausted attempts " ++ decimal work ++ codes "\n"
+level_line level work =
+    codes "level " ++ decimal level ++ codes " exhausted attempts " ++ decimal work ++ codes "\n"
 
 -- these lines for the levels from one on
 abbrev pub level_lines_from : ℕ → List ℕ → List ℕ
@@ -22,14 +23,18 @@ gave_up works = codes "% SZS status GaveUp\n" ++ level_lines works
 
 -- the level after the exhausted ones needs more attempts than the budget
 abbrev pub resource_out : List ℕ → List ℕ
-resource_out works = codes "% SZS status ResourceOut\n" ++ level_lines works ++ codes "level " ++ decimal (length works) ++ codes " budget\n"
+resource_out works =
+    codes "% SZS status ResourceOut\n" ++ level_lines works ++ codes "level "
+    ++ decimal (length works) ++ codes " budget\n"
 
 abbrev pub bad_words : List ℕ
 bad_words = codes "parmel: bad words\n"
 
 -- an offence of this kind stands at this place of the clause file
 abbrev pub input_error : ℕ → ℕ → CnfKind → List ℕ
-input_error line column kind = codes "% SZS status InputError\nline " ++ decimal line ++ codes " column " ++ decimal column ++ codes " " ++ kind_word kind ++ codes "\n"
+input_error line column kind =
+    codes "% SZS status InputError\nline " ++ decimal line ++ codes " column " ++ decimal column
+    ++ codes " " ++ kind_word kind ++ codes "\n"
 
 abbrev pub arguments_not_built : List ℕ
 arguments_not_built = codes "% SZS status InputError\narguments are not built\n"

@@ -160,7 +160,9 @@ impl State {
     fn reduced(mut goals: Vec<Goal>, depth: u32) -> Option<State>
         requires goals { 0 < length goals.items }
         requires depth { 0 < depth }
-        ensures { (problem : logic.Problem) (level : ℕ) → option_map state_of result ≡ after problem level (spec.goals (map goal_of goals.items)) (Step.Reduce depth) }
+        ensures { (problem : logic.Problem) (level : ℕ)
+            → option_map state_of result
+            ≡ after problem level (spec.goals (map goal_of goals.items)) (Step.Reduce depth) }
     {
         let goal = goals.remove(0);
         if goal.is_closed_at(depth) {
@@ -207,7 +209,8 @@ impl<'p> Calculus<'p> {
 
     /// The number of alternatives after a state.
     pub fn width(&self, level: u32, state: &State) -> u32
-        ensures { result ≡ length (alternatives self.now.problem.now self.now.start level (state_of state.now)) }
+        ensures { result ≡ length
+            (alternatives self.now.problem.now self.now.start level (state_of state.now)) }
     {
         match state {
             State::Unstarted => self.starts.len() as u32,
@@ -263,7 +266,8 @@ impl<'p> Calculus<'p> {
 
     /// The alternative of this number, where the state has so many.
     pub fn alternative(&self, level: u32, state: &State, choice: u32) -> Option<Step>
-        ensures step { result ≡ slice_get (alternatives self.now.problem.now self.now.start level (state_of state.now)) choice }
+        ensures step { result ≡ slice_get
+            (alternatives self.now.problem.now self.now.start level (state_of state.now)) choice }
         ensures allowed { IfSome result (Allows self.now.problem.now level (state_of state.now)) }
     {
         match state {
@@ -277,7 +281,9 @@ impl<'p> Calculus<'p> {
 
     // The alternative of this number for a goal: its reductions come before its extensions.
     fn alternative_of(&self, level: u32, goal: &Goal, choice: u32) -> Option<Step>
-        ensures { result ≡ slice_get (reductions (goal_of goal.now) ++ extensions self.now.problem.now level (goal_of goal.now)) choice }
+        ensures { result ≡ slice_get
+            (reductions (goal_of goal.now)
+            ++ extensions self.now.problem.now level (goal_of goal.now)) choice }
     {
         let ancestors = goal.above.len() as u32;
         if choice < ancestors {
@@ -311,7 +317,8 @@ impl<'p> Calculus<'p> {
     ) -> Result<Option<State>, AllocError>
         requires level { level ≤ 250 }
         requires allowed { Allows self.now.problem.now level (state_of state) step }
-        ensures { IfOk result (λ next. option_map state_of next ≡ after self.now.problem.now level (state_of state) step) }
+        ensures { IfOk result (λ next. option_map state_of next
+            ≡ after self.now.problem.now level (state_of state) step) }
     {
         match state {
             State::Unstarted => match step {
@@ -331,7 +338,8 @@ impl<'p> Calculus<'p> {
     // The start with a clause.
     fn begin(&self, alloc: Global, level: u32, clause: u32) -> Result<Option<State>, AllocError>
         requires { clause < length self.now.problem.now.clauses }
-        ensures { IfOk result (λ next. option_map state_of next ≡ after self.now.problem.now level spec.unstarted (Step.Start clause)) }
+        ensures { IfOk result (λ next. option_map state_of next
+            ≡ after self.now.problem.now level spec.unstarted (Step.Start clause)) }
     {
         let faces = faces_at(alloc, self.problem, clause)?;
         if level == 0 && !faces.is_empty() {
@@ -351,8 +359,11 @@ impl<'p> Calculus<'p> {
         literal: u32,
     ) -> Result<Option<State>, AllocError>
         requires level { level ≤ 250 }
-        requires allowed { Allows self.now.problem.now level (spec.goals (map goal_of goals.items)) (Step.Extend clause literal) }
-        ensures { IfOk result (λ next. option_map state_of next ≡ after self.now.problem.now level (spec.goals (map goal_of goals.items)) (Step.Extend clause literal)) }
+        requires allowed { Allows self.now.problem.now level (spec.goals (map goal_of goals.items))
+            (Step.Extend clause literal) }
+        ensures { IfOk result (λ next. option_map state_of next
+            ≡ after self.now.problem.now level (spec.goals (map goal_of goals.items))
+            (Step.Extend clause literal)) }
     {
         let branch = goals.remove(0).branch(alloc)?;
         let mut faces = faces_at(alloc, self.problem, clause)?;
@@ -362,8 +373,8 @@ impl<'p> Calculus<'p> {
         Ok(Some(State::Goals(next)))
     }
 
-    /// The state that a choice list leads to, or None where a choice is no alternative of its place or
-    /// its step can't be taken.
+    /// The state that a choice list leads to, or None where a choice is no alternative of its place
+    /// or its step can't be taken.
     pub fn follow(
         &self,
         alloc: Global,
@@ -371,7 +382,8 @@ impl<'p> Calculus<'p> {
         choices: &[u32],
     ) -> Result<Option<State>, AllocError>
         requires { level ≤ 250 }
-        ensures { IfOk result (λ state. option_map state_of state ≡ state_after self.now.problem.now self.now.start level choices.now) }
+        ensures { IfOk result (λ state. option_map state_of state
+            ≡ state_after self.now.problem.now self.now.start level choices.now) }
     {
         let mut state = State::Unstarted;
         for choice in choices {
@@ -392,7 +404,8 @@ impl<'p> Calculus<'p> {
         choice: u32,
     ) -> Result<Option<State>, AllocError>
         requires { level ≤ 250 }
-        ensures { IfOk result (λ state. option_map state_of state ≡ state_after self.now.problem.now self.now.start level (choices.now ++ choice ∷ [])) }
+        ensures { IfOk result (λ state. option_map state_of state
+            ≡ state_after self.now.problem.now self.now.start level (choices.now ++ choice ∷ [])) }
     {
         match self.follow(alloc, level, choices)? {
             Some(state) => self.choose(alloc, level, state, choice),
@@ -409,7 +422,8 @@ impl<'p> Calculus<'p> {
         choice: u32,
     ) -> Result<Option<State>, AllocError>
         requires { level ≤ 250 }
-        ensures { IfOk result (λ next. option_map state_of next ≡ next_state self.now.problem.now self.now.start level (Some (state_of state)) choice) }
+        ensures { IfOk result (λ next. option_map state_of next
+            ≡ next_state self.now.problem.now self.now.start level (Some (state_of state)) choice) }
     {
         match self.alternative(level, &state, choice) {
             Some(step) => self.apply(alloc, level, state, step),
@@ -420,7 +434,8 @@ impl<'p> Calculus<'p> {
     /// The steps that a choice list names, as far as it names any.
     pub fn steps(&self, alloc: Global, level: u32, choices: &[u32]) -> Result<Vec<Step>, AllocError>
         requires { level ≤ 250 }
-        ensures { IfOk result (λ steps. steps.items ≡ steps_from self.now.problem.now self.now.start level spec.unstarted choices.now) }
+        ensures { IfOk result (λ steps. steps.items
+            ≡ steps_from self.now.problem.now self.now.start level spec.unstarted choices.now) }
     {
         let mut steps = Vec::new(alloc);
         let mut state = State::Unstarted;
@@ -446,7 +461,8 @@ impl<'p> Calculus<'p> {
     ) -> Result<Tableau, AllocError>
         requires level { level ≤ 250 }
         requires complete { IsComplete (depth_level self.now.problem.now self.now.start level) choices.now }
-        ensures { IfOk result (λ tableau. IsGeneral (depth_level self.now.problem.now self.now.start level) choices.now tableau.tableau) }
+        ensures { IfOk result (λ tableau. IsGeneral
+            (depth_level self.now.problem.now self.now.start level) choices.now tableau.tableau) }
     {
         let steps = self.steps(alloc, level, choices)?;
         let Some(first) = steps.first() else {

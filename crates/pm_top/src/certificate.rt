@@ -11,17 +11,20 @@ use crate::texts::{push_levels, push_number};
 use pm_logic::{Literal, Node, NodeKind, Problem, Symbols, Tableau, tableau_depth, write_symbol};
 use std::alloc::{AllocError, Global};
 
-/// Whether the literals have the same predicate and opposite signs, which makes them complementary where
-/// they have no arguments.
+/// Whether the literals have the same predicate and opposite signs, which makes them complementary
+/// where they have no arguments.
 fn are_complementary(leaf: &Literal, ancestor: &Literal) -> bool
-    ensures { (terms : List Term) → result ≡ has_face (opposite (face_of (literal_of terms leaf.now))) (literal_of terms ancestor.now) }
+    ensures { (terms : List Term)
+        → result ≡ has_face (opposite (face_of (literal_of terms leaf.now)))
+        (literal_of terms ancestor.now) }
 {
     leaf.positive != ancestor.positive && leaf.predicate == ancestor.predicate
 }
 
 /// The depth of the first complementary literal on the branch; 0 where there is none.
 fn closer(branch: &[&Literal], leaf: &Literal) -> usize
-    ensures { (terms : List Term) → result ≡ closer (map (λ l. literal_of terms l.now) branch.now) (literal_of terms leaf.now) }
+    ensures { (terms : List Term)
+        → result ≡ closer (map (λ l. literal_of terms l.now) branch.now) (literal_of terms leaf.now) }
 {
     for (i, ancestor) in branch.iter().enumerate() {
         if are_complementary(leaf, *ancestor) {
@@ -38,7 +41,10 @@ fn push_front(
     depth: u64,
     literal: &Literal,
 ) -> Result<(), AllocError>
-    ensures { (terms : List Term) → OnOk result (text.new.items ≡ text.old.items ++ node_front symbols.now depth (literal_of terms literal.now)) }
+    ensures { (terms : List Term)
+        → OnOk result
+        (text.new.items ≡ text.old.items
+        ++ node_front symbols.now depth (literal_of terms literal.now)) }
 {
     push_number(text, depth)?;
     text.extend_from_slice(if literal.positive { b" + " } else { b" - " })?;
@@ -48,15 +54,19 @@ fn push_front(
     Ok(())
 }
 
-/// Appends the line of a node: its depth, its literal, and how it is closed or extended. The branch has
-/// the literals above the node.
+/// Appends the line of a node: its depth, its literal, and how it is closed or extended. The branch
+/// has the literals above the node.
 fn push_node(
     text: &mut Vec<u8>,
     symbols: &Symbols,
     node: &Node,
     branch: &[&Literal],
 ) -> Result<(), AllocError>
-    ensures { (terms : List Term) → OnOk result (text.new.items ≡ text.old.items ++ lines_below symbols.now (map (λ l. literal_of terms l.now) branch.now) (childless (literal_of terms node.now.literal) node.now.kind)) }
+    ensures { (terms : List Term)
+        → OnOk result
+        (text.new.items ≡ text.old.items
+        ++ lines_below symbols.now (map (λ l. literal_of terms l.now) branch.now)
+        (childless (literal_of terms node.now.literal) node.now.kind)) }
 {
     push_front(text, symbols, branch.len() as u64 + 1, &node.literal)?;
     match node.kind {
@@ -80,7 +90,8 @@ fn push_nodes(
     symbols: &Symbols,
     tableau: &Tableau,
 ) -> Result<(), AllocError>
-    ensures { OnOk result (text.new.items ≡ text.old.items ++ lines_among symbols.now [] tableau.now.tableau.children) }
+    ensures { OnOk result (text.new.items ≡ text.old.items
+        ++ lines_among symbols.now [] tableau.now.tableau.children) }
 {
     let mut branch = Vec::new(alloc);
     for node in tableau.nodes() {
@@ -92,7 +103,8 @@ fn push_nodes(
     Ok(())
 }
 
-/// Appends the certificate of the tableau. No literal has arguments, so there are no lines of terms.
+/// Appends the certificate of the tableau. No literal has arguments, so there are no lines of
+/// terms.
 fn push_certificate(
     alloc: Global,
     text: &mut Vec<u8>,
@@ -113,8 +125,8 @@ fn push_certificate(
     Ok(())
 }
 
-/// The text of a run whose level after the exhausted ones has this tableau, which is its attempt number
-/// `work`.
+/// The text of a run whose level after the exhausted ones has this tableau, which is its attempt
+/// number `work`.
 pub fn proof(
     alloc: Global,
     problem: &Problem,
@@ -122,7 +134,8 @@ pub fn proof(
     works: &[u64],
     work: u64,
 ) -> Result<Vec<u8>, AllocError>
-    ensures { IfOk result (λ text. text.items ≡ proof_text problem.now.symbols tableau.now.tableau works.now work) }
+    ensures { IfOk result (λ text. text.items
+        ≡ proof_text problem.now.symbols tableau.now.tableau works.now work) }
 {
     let mut text = Vec::from_slice(alloc, b"% SZS status Unsatisfiable\n")?;
     push_levels(&mut text, works)?;

@@ -29,7 +29,8 @@ fn draw_node(
 ) -> Result<(), AllocError>
     requires below_root { 1 ≤ pending.depth }
     requires shallow { pending.depth ≤ deepest_next (preorder tableau.old.tableau) }
-    ensures node { OnOk result (preorder tableau.new.tableau ≡ preorder tableau.old.tableau ++ entry_as kind pending ∷ []) }
+    ensures node { OnOk result (preorder tableau.new.tableau ≡ preorder tableau.old.tableau
+        ++ entry_as kind pending ∷ []) }
     ensures root { tableau.new.tableau.root ≡ tableau.old.tableau.root }
 {
     tableau.add(Node {
@@ -50,9 +51,12 @@ fn next_open(
     pending: &mut Vec<Pending>,
 ) -> Result<Option<Pending>, AllocError>
     requires { AreNested (deepest_next (preorder tableau.old.tableau)) (reverse pending.old.items) }
-    ensures drew { IfOk result (λ next. DrewClosed (reverse pending.old.items) (option_to_list next ++ reverse pending.new.items) (preorder tableau.old.tableau) (preorder tableau.new.tableau)) }
+    ensures drew { IfOk result (λ next. DrewClosed (reverse pending.old.items)
+        (option_to_list next ++ reverse pending.new.items) (preorder tableau.old.tableau)
+        (preorder tableau.new.tableau)) }
     ensures open { IfOk result (λ next. MatchOption next (pending.new.items ≡ []) (λ p. p.closed ≡ false)) }
-    ensures nested { IfOk result (λ next. AreNested (deepest_next (preorder tableau.new.tableau)) (option_to_list next ++ reverse pending.new.items)) }
+    ensures nested { IfOk result (λ next. AreNested (deepest_next (preorder tableau.new.tableau))
+        (option_to_list next ++ reverse pending.new.items)) }
     ensures root { tableau.new.tableau.root ≡ tableau.old.tableau.root }
 {
     'leaves: while let Some(next) = pending.pop() {
@@ -71,7 +75,8 @@ fn draw_leaves(
     mut pending: Vec<Pending>,
 ) -> Result<(), AllocError>
     requires { AreNested (deepest_next (preorder tableau.old.tableau)) (reverse pending.items) }
-    ensures leaves { OnOk result (preorder tableau.new.tableau ≡ preorder tableau.old.tableau ++ map (entry_as NodeKind.Leaf) (reverse pending.items)) }
+    ensures leaves { OnOk result (preorder tableau.new.tableau ≡ preorder tableau.old.tableau
+        ++ map (entry_as NodeKind.Leaf) (reverse pending.items)) }
     ensures root { tableau.new.tableau.root ≡ tableau.old.tableau.root }
 {
     'leaves: while let Some(leaf) = pending.pop() {
@@ -80,14 +85,16 @@ fn draw_leaves(
     Ok(())
 }
 
-/// The literals of a clause, to be drawn at this depth. The one of index `closed` is closed by its parent.
+/// The literals of a clause, to be drawn at this depth. The one of index `closed` is closed by its
+/// parent.
 fn pending_literals(
     alloc: Global,
     literals: &[Literal],
     depth: u32,
     closed: Option<usize>,
 ) -> Result<Vec<Pending>, AllocError>
-    ensures { IfOk result (λ pending. pending.items ≡ map (pending_at depth closed) (enumerate_from 0 literals.now)) }
+    ensures { IfOk result (λ pending. pending.items
+        ≡ map (pending_at depth closed) (enumerate_from 0 literals.now)) }
 {
     let mut pending = Vec::new(alloc);
     for (i, literal) in literals.iter().enumerate() {
@@ -108,17 +115,20 @@ fn push_literals(
     depth: u32,
     closed: Option<usize>,
 ) -> Result<(), AllocError>
-    ensures { OnOk result (reverse pending.new.items ≡ map (pending_at depth closed) (enumerate_from 0 literals.now) ++ reverse pending.old.items) }
+    ensures { OnOk result (reverse pending.new.items
+        ≡ map (pending_at depth closed) (enumerate_from 0 literals.now)
+        ++ reverse pending.old.items) }
 {
     let mut children = pending_literals(alloc, literals, depth, closed)?;
     children.reverse();
     pending.append(&mut children)
 }
 
-/// The tableau that the start with the clause of index `root` and then these steps build. Each step is
-/// for the selected leaf, the first unclosed one in pre-order, so in pre-order the steps come in their own
-/// order. A start among them changes nothing, nor does a step after the last leaf was closed. The steps
-/// name clauses of the problem, and no branch of the tableau has more than 250 literals.
+/// The tableau that the start with the clause of index `root` and then these steps build. Each step
+/// is for the selected leaf, the first unclosed one in pre-order, so in pre-order the steps come in
+/// their own order. A start among them changes nothing, nor does a step after the last leaf was
+/// closed. The steps name clauses of the problem, and no branch of the tableau has more than 250
+/// literals.
 pub fn draw(
     alloc: Global,
     problem: &Problem,
@@ -129,7 +139,8 @@ pub fn draw(
     requires root { root < length problem.now.clauses }
     requires clauses { All (NamesClause (length problem.now.clauses)) steps.now }
     requires shallow { depth (drawn problem.now.clauses (built problem.now.clauses root steps.now)) ≤ 250 }
-    ensures { IfOk result (λ tableau. tableau.tableau ≡ drawn problem.now.clauses (built problem.now.clauses root steps.now)) }
+    ensures { IfOk result (λ tableau. tableau.tableau
+        ≡ drawn problem.now.clauses (built problem.now.clauses root steps.now)) }
 {
     let mut tableau = Tableau::new(alloc, TermTable::new(alloc), root);
     let mut pending = Vec::new(alloc);

@@ -73,8 +73,8 @@ impl Fault {
     }
 }
 
-/// The text for a search that found this complete list at a level, after the exhausted ones: the list's
-/// general tableau as a certificate.
+/// The text for a search that found this complete list at a level, after the exhausted ones: the
+/// list's general tableau as a certificate.
 fn found_text(
     alloc: Global,
     calculus: &Calculus<'_>,
@@ -85,7 +85,11 @@ fn found_text(
 ) -> Result<Vec<u8>, AllocError>
     requires level { level ≤ 250 }
     requires complete { IsComplete (depth_level calculus.now.problem.now calculus.now.start level) path.now }
-    ensures { IfOk result (λ text. (tableau : Tableau) × IsGeneral (depth_level calculus.now.problem.now calculus.now.start level) path.now tableau × (text.items ≡ proof_text calculus.now.problem.now.symbols tableau works.now work)) }
+    ensures { IfOk result (λ text.
+        (tableau : Tableau)
+        × IsGeneral (depth_level calculus.now.problem.now calculus.now.start level) path.now
+        tableau
+        × (text.items ≡ proof_text calculus.now.problem.now.symbols tableau works.now work)) }
 {
     let tableau = calculus.general_tableau(alloc, level, path)?;
     proof(alloc, calculus.problem(), &tableau, works, work)
@@ -139,7 +143,9 @@ fn is_bare(clause: &Clause) -> bool
 
 /// The answer for bytes that aren't read.
 fn refuse(alloc: Global, error: CnfError) -> Result<Answer, AllocError>
-    ensures { IfOk result (λ answer. (bytes : _) → Refuses standard_limits bytes error → (answer.status ≡ Status.BadInput) × IsRefusal bytes answer.text.items) }
+    ensures { IfOk result (λ answer.
+        (bytes : _) → Refuses standard_limits bytes error
+        → (answer.status ≡ Status.BadInput) × IsRefusal bytes answer.text.items) }
 {
     match error {
         CnfError::At { place, kind } => Ok(Answer {
@@ -182,7 +188,8 @@ fn write_clauses(alloc: Global, bytes: &[u8]) -> Result<Answer, AllocError>
 /// Does the job for a file of these bytes.
 fn do_job(alloc: Global, job: Job<'_>, bytes: &[u8]) -> Result<Answer, AllocError>
     requires { length bytes.now ≤ MAX_FILE_BYTES }
-    ensures { IfOk result (λ answer. EndsJob (job_view job.entry) bytes.now answer.status answer.text.items) }
+    ensures { IfOk result (λ answer.
+        EndsJob (job_view job.entry) bytes.now answer.status answer.text.items) }
 {
     match job {
         Job::Prove { .. } => prove(alloc, bytes),
@@ -196,9 +203,13 @@ fn answer_words<L: Library>(
     words: &[String],
     library: &mut L,
 ) -> Result<Answer, Fault>
-    ensures output { IfOk result (λ answer. Output (map string_bytes words.now) (L.told library.old) (L.longs library.old, L.longs library.new) answer.status answer.text.items) }
+    ensures output { IfOk result (λ answer.
+        Output (map string_bytes words.now) (L.told library.old)
+        (L.longs library.old, L.longs library.new) answer.status answer.text.items) }
     ensures unasked { IsNone (job_of (map string_bytes words.now)) → library.new ≡ library.old }
-    ensures missing { IsErrOf result Fault.Missing → Rose (L.misses library.old) (L.misses library.new) × IsMissing (map string_bytes words.now) (L.told library.old) }
+    ensures missing { IsErrOf result Fault.Missing
+        → Rose (L.misses library.old) (L.misses library.new)
+        × IsMissing (map string_bytes words.now) (L.told library.old) }
     ensures read_fault { IsErrOf result Fault.ReadFault → Rose (L.faults library.old) (L.faults library.new) }
 {
     let Some(job) = job_of(words) else {
@@ -221,12 +232,12 @@ fn answer_words<L: Library>(
 
 /// Does the job that the words ask for, with one worker. It always returns.
 ///
-/// The jobs are `prove FILE` and `clauses FILE`. `clauses` writes the clauses of a file. `prove` takes clauses
-/// whose predicates have no arguments: levels 0 to 30 are searched in order for closed connection tableaux of
-/// the class `plain` with a negative start clause; level d is the search of those of depth at most d, with at
-/// most 1,000,000 attempts. Nothing is written on `Missing`,
-/// `ReadFault` and `NoMemory`, and a prefix of the output's text on `WriteFault`; on every other status the
-/// whole text. Want of memory alone has no cause that a clause names.
+/// The jobs are `prove FILE` and `clauses FILE`. `clauses` writes the clauses of a file. `prove`
+/// takes clauses whose predicates have no arguments: levels 0 to 30 are searched in order for
+/// closed connection tableaux of the class `plain` with a negative start clause; level d is the
+/// search of those of depth at most d, with at most 1,000,000 attempts. Nothing is written on
+/// `Missing`, `ReadFault` and `NoMemory`, and a prefix of the output's text on `WriteFault`; on
+/// every other status the whole text. Want of memory alone has no cause that a clause names.
 pub fn run_alone<L: Library, S: Sink>(
     alloc: Global,
     words: &[String],
@@ -237,17 +248,22 @@ pub fn run_alone<L: Library, S: Sink>(
     ensures unasked { IsNone (job_of (map string_bytes words.now)) → library.new ≡ library.old }
 
     // Each fault has its cause.
-    ensures missing { result ≡ Status.Missing → Rose (L.misses library.old) (L.misses library.new) × IsMissing (map string_bytes words.now) (L.told library.old) }
+    ensures missing { result ≡ Status.Missing
+        → Rose (L.misses library.old) (L.misses library.new)
+        × IsMissing (map string_bytes words.now) (L.told library.old) }
     ensures read_fault { result ≡ Status.ReadFault → Rose (L.faults library.old) (L.faults library.new) }
     ensures write_fault { result ≡ Status.WriteFault → Rose (S.faults sink.old) (S.faults sink.new) }
 
-    // What is written is the text of the output, with its status. A level is printed as exhausted only with
-    // its number of attempts, and only if no closed connection tableau has at most its depth. A proof is
-    // printed only as such a tableau of the least depth. The depth is reached exactly where each level is
-    // exhausted within the budget; the budget ends a run exactly where a level needs more attempts and no
-    // lower one has a tableau; the bytes are refused exactly where they have an offence, by the first one,
-    // or, where they are to be proved, where a kept literal has arguments.
-    ensures written { HasWritten (map string_bytes words.now) (L.told library.old) (L.longs library.old, L.longs library.new) (S.written sink.old) (S.written sink.new) result }
+    // What is written is the text of the output, with its status. A level is printed as exhausted
+    // only with its number of attempts, and only if no closed connection tableau has at most its
+    // depth. A proof is printed only as such a tableau of the least depth. The depth is reached
+    // exactly where each level is exhausted within the budget; the budget ends a run exactly where
+    // a level needs more attempts and no lower one has a tableau; the bytes are refused exactly
+    // where they have an offence, by the first one, or, where they are to be proved, where a kept
+    // literal has arguments.
+    ensures written { HasWritten (map string_bytes words.now) (L.told library.old)
+        (L.longs library.old, L.longs library.new) (S.written sink.old) (S.written sink.new)
+        result }
 {
     match answer_words(alloc, words, library) {
         Ok(Answer { status, text }) => match put_text(sink, &text) {
@@ -258,7 +274,8 @@ pub fn run_alone<L: Library, S: Sink>(
     }
 }
 
-/// The words and the files that a library tells determine the status and the text of a run's output.
+/// The words and the files that a library tells determine the status and the text of a run's
+/// output.
 pub fn output_is_determined()
     ensures { OutputIsDetermined }
 {}

@@ -1,5 +1,5 @@
-//! The space of choice lists of the connection calculus at a level, for clauses whose predicates have no
-//! arguments.
+//! The space of choice lists of the connection calculus at a level, for clauses whose predicates
+//! have no arguments.
 
 ghost use Rattle.std.specs.Prelude.{◌≡◌, ℕ, ◌≤◌, All, length, List, [], ◌∷◌, ◌++◌, is_ok, if◌then◌else◌, IfOk, IsSome};
 ghost use Rattle.pm_space.specs.Key.{Key};
@@ -24,8 +24,10 @@ pub struct ClauseSpace<'m, 'p> {
     frame: Frame,
     ghost shallow: { level ≤ 250 },
     ghost reached: { IsSome (state_after calculus.now.problem.now calculus.now.start level path.items) },
-    ghost frame_is: { frame ≡ frame_of calculus.now.problem.now calculus.now.start level (state_after calculus.now.problem.now calculus.now.start level path.items) },
-    ghost earlier_are: { earlier.items ≡ frames_before calculus.now.problem.now calculus.now.start level [] path.items },
+    ghost frame_is: { frame ≡ frame_of calculus.now.problem.now calculus.now.start level
+        (state_after calculus.now.problem.now calculus.now.start level path.items) },
+    ghost earlier_are: { earlier.items
+        ≡ frames_before calculus.now.problem.now calculus.now.start level [] path.items },
 }
 
 impl<'m, 'p> Space for ClauseSpace<'m, 'p> {
@@ -33,7 +35,8 @@ impl<'m, 'p> Space for ClauseSpace<'m, 'p> {
 
     ghost path = { λ space. space.path.items };
 
-    ghost key = { λ space. key_of (depth_level space.calculus.now.problem.now space.calculus.now.start space.level) };
+    ghost key = { λ space. key_of
+        (depth_level space.calculus.now.problem.now space.calculus.now.start space.level) };
 
     fn width(&self) -> u32 {
         self.frame.width
@@ -70,7 +73,8 @@ impl<'m, 'p> Space for ClauseSpace<'m, 'p> {
         from
     }
 
-    ghost is_key = { λ space. level_laws (depth_level space.calculus.now.problem.now space.calculus.now.start space.level) };
+    ghost is_key = { λ space. level_laws
+        (depth_level space.calculus.now.problem.now space.calculus.now.start space.level) };
 }
 
 // Pushes to both or, after want of memory, to neither.
@@ -81,7 +85,8 @@ fn push_both(
     frame: Frame,
 ) -> Result<(), AllocError>
     ensures path { path.new.items ≡ (if is_ok result then path.old.items ++ choice ∷ [] else path.old.items) }
-    ensures frames { frames.new.items ≡ (if is_ok result then frames.old.items ++ frame ∷ [] else frames.old.items) }
+    ensures frames { frames.new.items
+        ≡ (if is_ok result then frames.old.items ++ frame ∷ [] else frames.old.items) }
 {
     path.push(choice)?;
     if frames.push(frame).is_err() {

@@ -46,8 +46,8 @@ impl Status {
         }
     }
 
-    /// The line on standard error for a fault of the outside or want of memory; empty for every other
-    /// status.
+    /// The line on standard error for a fault of the outside or want of memory; empty for every
+    /// other status.
     pub fn line(&self) -> &str
         ensures { result.now ≡ line_of self.now }
     {

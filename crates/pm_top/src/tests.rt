@@ -92,8 +92,8 @@ end
     Ok(())
 }
 
-// Nothing closes `c` or `d`. The leaf at depth 1 has two extensions; of the leaves at depth 2 one has a
-// reduction and an extension, the other a reduction; the leaf at depth 3 has two reductions.
+// Nothing closes `c` or `d`. The leaf at depth 1 has two extensions; of the leaves at depth 2 one
+// has a reduction and an extension, the other a reduction; the leaf at depth 3 has two reductions.
 #[test]
 fn no_tableau(rt: HostRuntime) -> Result<(), Fail> {
     let file = "cnf(goal,axiom,~a). cnf(r,axiom,a | ~b). cnf(s,axiom,a | ~c). cnf(t,axiom,b | ~d).";

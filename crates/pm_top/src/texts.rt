@@ -45,7 +45,8 @@ pub fn gave_up(alloc: Global, works: &[u64]) -> Result<Vec<u8>, AllocError>
     Ok(text)
 }
 
-/// The text of a run in which the level after the exhausted ones needs more attempts than the budget.
+/// The text of a run in which the level after the exhausted ones needs more attempts than the
+/// budget.
 pub fn resource_out(alloc: Global, works: &[u64]) -> Result<Vec<u8>, AllocError>
     ensures { IfOk result (λ text. text.items ≡ resource_out works.now) }
 {
