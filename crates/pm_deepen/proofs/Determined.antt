@@ -1,5 +1,5 @@
 -- The answer of a search of levels is determined.
-use Rattle.std.proofs.Common.{◌≡◌, ℕ, ◌+◌, ◌<◌, ◌≤◌, ◌⊎◌, List, [], ◌∷◌, suc, length, refl, sym, ap, subst, ◌∙◌, arith, inl, inr}
+use Rattle.std.proofs.Common.{◌≡◌, ℕ, ◌<◌, ◌≤◌, List, [], ◌∷◌, suc, length, refl, sym, ap, subst, ◌∙◌, arith, inl, inr}
 use Rattle.std.specs.Prelude.{slice_index}
 use Rattle.std.proofs.lemmas.Bool.{cases_order}
 use Rattle.std.specs.Prelude.{Option, Some, None}
@@ -11,7 +11,7 @@ use Rattle.pm_choice.specs.Entries.{Closes, Finds}
 use Rattle.pm_search.specs.Attempts.{attempts_of}
 use Rattle.pm_search.specs.Work.{Exceeds}
 use Rattle.pm_choice.proofs.EntryLemmas.{finds_once, closes_once, not_both}
-use Rattle.pm_deepen.specs.Levels.{Options, key_of, level_at, GoesWith, IsAnswerOf, AnswerIsDetermined}
+use Rattle.pm_deepen.specs.Levels.{Options, key_of, level_at, GoesWith, AnswerIsDetermined}
 use Rattle.pm_choice.specs.declared.Bound.TheVariants.{End}
 use Rattle.pm_deepen.specs.declared.DeepEnd.{DeepEnd}
 use Rattle.pm_deepen.specs.declared.DeepEnd.TheVariants.{Proof, DepthReached, BudgetOut}

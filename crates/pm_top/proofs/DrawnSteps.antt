@@ -22,7 +22,7 @@ use Rattle.pm_top.specs.Drawing.{DrewClosed, entry_as, pending_at}
 use Rattle.pm_top.specs.declared.drawing.Pending.{Pending}
 use Rattle.pm_top.specs.declared.calculus.Step.{Step}
 use Rattle.pm_top.specs.declared.calculus.Step.TheVariants.{Start, Extend, Reduce}
-use Rattle.pm_top.proofs.Places.{Place, place, subgoal_at, closed_by, extended_by, places_among, AreShaped, IsShaped, KeepsShape, fill, made_at, filled_places, shaped_filled_among, shaped-leaves, shaped-leaves_but}
+use Rattle.pm_top.proofs.Places.{Place, place, subgoal_at, closed_by, extended_by, places_among, AreShaped, KeepsShape, fill, made_at, filled_places, shaped_filled_among, shaped-leaves, shaped-leaves_but}
 use Rattle.pm_top.proofs.DrawnPlaces.{preorder_places, StandFor, leaves_stand, leaves_but_stand, IsUnderway, all_pending, all_drawn, drew_closed, filled_next, filled_none}
 
 -- ---- a tableau only deepens

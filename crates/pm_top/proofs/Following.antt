@@ -13,12 +13,12 @@ use Rattle.pm_calculus.specs.Substitution.{AreComplementary}
 use Rattle.pm_calculus.specs.Connection.{Level}
 use Rattle.pm_calculus.specs.Skeleton as logic
 use Rattle.pm_calculus.specs.Skeleton.{Skeleton, unclosed, closed, extended, Skeletons, no_skeletons, more_skeletons, empty, rooted, Subgoal, depth_of, selected_among, filled_among, leaves, leaves_but, literals_at, extension, reduction, after_step}
-use Rattle.pm_calculus.specs.Alternatives.{has_face, opposite, used, alternatives_for, after_choice}
+use Rattle.pm_calculus.specs.Alternatives.{has_face, opposite, used}
 use Rattle.pm_calculus.specs.Choices.{at_depth}
 use Rattle.pm_calculus.proofs.Alternatives.{IsStepFor}
 use Rattle.pm_calculus.proofs.ListsToTrees.{own_depth}
 use Rattle.pm_top.specs.Goals.{Face, Goal, State, unstarted, goals, face_of, clause_faces, are_opposite, closes, goals_below}
-use Rattle.pm_top.proofs.Places.{Place, Mark, open_leaf, closed_by, extended_by, is_open, is_open_mark, first_open, fill, places_below, places_among, IsShaped, AreShaped, subgoal_at, made_at, filled_places, KeepsShape, shaped_filled_among, shaped-leaves_but, all-append, all-first, all-fill, all-filled}
+use Rattle.pm_top.proofs.Places.{Place, Mark, open_leaf, closed_by, extended_by, is_open, is_open_mark, first_open, fill, places_below, places_among, AreShaped, subgoal_at, made_at, filled_places, KeepsShape, shaped_filled_among, shaped-leaves_but, all-append, all-first, all-fill, all-filled}
 use Rattle.pm_top.proofs.Labels.{IsArgless, AreArgless, AllAreArgless, FitsMark, FitsAt, LiesWithin}
 use Rattle.pm_top.proofs.Opens.{goal_at, opens, after_open, opens-fill, opens-leaves_but, faces_at}
 

@@ -16,8 +16,7 @@ use Rattle.std.specs.FinMap as map
 use Rattle.pm_outside.specs.Outside.{Files}
 use Rattle.pm_top.specs.declared.run.TheConstants.{MAX_FILE_BYTES}
 use Rattle.pm_top.specs.JobWords.{Job, file_of, job_of}
-use Rattle.pm_cnf.specs.declared.error.CnfError.{CnfError}
-use Rattle.pm_cnf.specs.declared.error.CnfError.TheVariants.{At, Memory}
+use Rattle.pm_cnf.specs.declared.error.CnfError.TheVariants.{At}
 use Rattle.pm_cnf.specs.declared.error.CnfKind.{CnfKind}
 use Rattle.pm_cnf.specs.declared.error.Place.{Place}
 use Rattle.pm_cnf.specs.Refusals.{Refuses}

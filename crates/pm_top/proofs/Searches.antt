@@ -1,5 +1,5 @@
 -- How the search of a problem ends, and what follows of its answer.
-use Rattle.std.proofs.Common.{◌≡◌, ℕ, ◌<◌, inl, inr, List, [], ◌∷◌, length, Option, Some, None, IfSome, refl, ◌∙◌, ap, subst, arith}
+use Rattle.std.proofs.Common.{◌≡◌, ℕ, ◌<◌, inl, inr, List, length, Option, Some, None, IfSome, refl, ◌∙◌, ap, subst, arith}
 use Rattle.std.proofs.lemmas.Bool.{cases_lt}
 use Rattle.pm_logic.specs.declared.problem.Start.{Start as Rule}
 use Rattle.pm_logic.specs.declared.problem.Start.TheVariants.{Negative}

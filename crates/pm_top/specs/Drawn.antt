@@ -1,7 +1,7 @@
 -- Tableaux over clauses whose predicates have no arguments: there is nothing to put for a variable,
 -- so what choices build is the tableau in which each node carries its clause's own literal.
 use Rattle.std.specs.Prelude.{ℕ, ◌<◌, List, [], ◌∷◌, map, fold}
-use Rattle.pm_logic.specs.Problem.{Literal, Clause, Problem}
+use Rattle.pm_logic.specs.Problem.{Literal, Clause}
 use Rattle.pm_logic.specs.Tableau.{Node, leaf, inner, Nodes, no_nodes, more_nodes, Tableau}
 use Rattle.pm_calculus.specs.Skeleton.{Skeleton, unclosed, closed, extended, Skeletons, no_skeletons, more_skeletons, State, empty, rooted, literals_at, after_step}
 use Rattle.pm_calculus.specs.Skeleton as logic

@@ -1,4 +1,4 @@
-use Rattle.std.proofs.Common.{◌+◌, ◌≡◌, ◌≤◌, ℕ, List, [], length, sym, subst, ap, arith}
+use Rattle.std.proofs.Common.{◌≡◌, ℕ, List, [], length, sym, subst, ap, arith}
 use Rattle.pm_pool.specs.Level.{EndsLevel}
 use Rattle.pm_pool.specs.declared.LevelEnd.{LevelEnd}
 use Rattle.pm_deepen.specs.Answer.{AreExhausted}

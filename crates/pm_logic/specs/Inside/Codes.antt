@@ -1,6 +1,6 @@
 -- How problems and tableaux are stored, as a proof may ask of a value: a record as the tuple of its parts.
 use Rattle.std.specs.Prelude.{◌≡◌, ℕ, zero, suc, ◌⊎◌, List, refl}
-use Rattle.std.specs.Coded.{Coded, code_by, coded_list, coded×, coded⊎, coded_ℕ, coded_bool}
+use Rattle.std.specs.Coded.{Coded, code_by, coded_list, coded×, coded⊎, coded_ℕ}
 use Rattle.std.proofs.Common.{inl, inr}
 use Rattle.pm_logic.specs.declared.symbols.Kind.{Kind}
 use Rattle.pm_logic.specs.declared.symbols.Kind.TheVariants.{Predicate, Function, Equality}

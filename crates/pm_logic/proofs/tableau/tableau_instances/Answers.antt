@@ -1,4 +1,4 @@
-use Rattle.std.proofs.Common.{◌∙◌, ap, sym, map, List, length, arith}
+use Rattle.std.proofs.Common.{◌∙◌, ap, map, List, arith}
 use Rattle.std.proofs.lemmas.List.{take_all}
 use Rattle.pm_logic.specs.declared.tableau.Node.{Node}
 use Rattle.pm_logic.specs.View.{entry_of}
