@@ -43,7 +43,7 @@ impl Model for Book {
     ghost invariant = { λ a. AreSoundTables a.tables };
 }
 
-/// Whether a row is Running and has the interval of a ticket.
+// Whether a row is Running and has the interval of a ticket.
 fn has_interval(tables: &Tables, row: BookRow, ticket: &Ticket) -> bool
     requires { HasPlaces (length tables.now.cuts.items) row }
     ensures { let seen = row_seen tables.now.cuts.items row in
@@ -56,7 +56,7 @@ fn has_interval(tables: &Tables, row: BookRow, ticket: &Ticket) -> bool
         && tables.ends_at(row.to, ticket.to())
 }
 
-/// The spot of a ticket's row, where a Running row has its number and interval.
+// The spot of a ticket's row, where a Running row has its number and interval.
 fn locate(tables: &Tables, ticket: &Ticket) -> Option<Spot>
     requires kept { AreKept tables.now }
     requires always { AlwaysHolds (seen tables.now) }
@@ -72,7 +72,7 @@ fn locate(tables: &Tables, ticket: &Ticket) -> Option<Spot>
     Some(spot)
 }
 
-/// A ticket of a row.
+// A ticket of a row.
 fn ticket_of(tables: &Tables, row: BookRow) -> Result<Ticket, AllocError>
     requires places { HasPlaces (length tables.now.cuts.items) row }
     requires interval { PrecedesBound (lower tables.now.cuts.items row.from)
@@ -88,7 +88,7 @@ fn ticket_of(tables: &Tables, row: BookRow) -> Result<Ticket, AllocError>
     })
 }
 
-/// The upper end of a row.
+// The upper end of a row.
 fn upper_of(tables: &Tables, to: Option<u64>) -> Result<Bound, AllocError>
     requires { IsCutPlace (length tables.now.cuts.items) to }
     ensures { IfOk result (λ bound. bound ≡ upper tables.now.cuts.items to) }
@@ -99,14 +99,14 @@ fn upper_of(tables: &Tables, to: Option<u64>) -> Result<Bound, AllocError>
     }
 }
 
-/// Whether a list is strictly between the ends of a ticket.
+// Whether a list is strictly between the ends of a ticket.
 fn is_inside(ticket: &Ticket, list: &[u32]) -> bool
     ensures { result ≡ (is_before ticket.now.from list.now && is_below list.now ticket.now.to) }
 {
     is_before(ticket.from(), list) && is_below(list, ticket.to())
 }
 
-/// The list at which a row is returned: its lower end, where none is given.
+// The list at which a row is returned: its lower end, where none is given.
 fn returned_at(at: Option<Choices>, from: Choices) -> Choices
     ensures { result ≡ unwrap_or at from }
 {
@@ -116,7 +116,7 @@ fn returned_at(at: Option<Choices>, from: Choices) -> Choices
     }
 }
 
-/// Whether a book is over.
+// Whether a book is over.
 fn is_over(survey: &Survey, budget: u64) -> bool
     ensures { IsTrue result ↔ ((budget < survey.now.spent) ⊎ IsFalse survey.now.open) }
 {

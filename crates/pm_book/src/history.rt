@@ -60,7 +60,7 @@ pub fn replay(
     Ok(Book { tables })
 }
 
-/// Why a replay fails where there is no memory for a new book.
+// Why a replay fails where there is no memory for a new book.
 fn fault_of_none(events: &[Event]) -> ReplayFault
     ensures { (budget : ℕ) (cuts : List (List ℕ)) → FailsBy budget cuts events.now result }
 {
@@ -74,7 +74,7 @@ fn fault_of_none(events: &[Event]) -> ReplayFault
     }
 }
 
-/// Whether an event is a step from a new book.
+// Whether an event is a step from a new book.
 fn is_first_step(event: Event) -> bool
     ensures step { IsTrue result
         → (budget : ℕ) (cuts : List (List ℕ)) → IsSome (next cuts (Some (new_book budget)) event) }
@@ -87,7 +87,7 @@ fn is_first_step(event: Event) -> bool
     }
 }
 
-/// Makes one event, and answers whether it was a step. After want of memory it was one.
+// Makes one event, and answers whether it was a step. After want of memory it was one.
 fn apply(tables: &mut Tables, event: Event, cuts: &[Choices]) -> Result<bool, AllocError>
     requires kept { AreKept tables.old }
     requires always { AlwaysHolds (seen tables.old) }
@@ -115,7 +115,7 @@ fn apply(tables: &mut Tables, event: Event, cuts: &[Choices]) -> Result<bool, Al
     }
 }
 
-/// The list at a place of the cuts, where it is the next one of the book.
+// The list at a place of the cuts, where it is the next one of the book.
 fn named<'c>(tables: &Tables, cut: u64, cuts: &'c [Choices]) -> Option<&'c Choices>
     ensures none { IfNone result
         ((slice_get cuts.now cut ≡ None) ⊎ ((cut == length tables.now.cuts.items) ≡ false)) }
@@ -129,14 +129,14 @@ fn named<'c>(tables: &Tables, cut: u64, cuts: &'c [Choices]) -> Option<&'c Choic
     Some(&cuts[next])
 }
 
-/// Whether a Queued row may be taken by this number.
+// Whether a Queued row may be taken by this number.
 fn may_take(row: BookRow, number: u64, spent: u128, budget: u64) -> bool
     ensures { result ≡ (row.number == number && nat_le spent budget) }
 {
     row.number == number && spent <= u128::from(budget)
 }
 
-/// Whether a row may be split at a list.
+// Whether a row may be split at a list.
 fn may_split(tables: &Tables, row: BookRow, cut: &[u32]) -> bool
     requires { HasPlaces (length tables.now.cuts.items) row }
     ensures { result ≡ may_split cut.now (row_seen tables.now.cuts.items row) }
@@ -145,7 +145,7 @@ fn may_split(tables: &Tables, row: BookRow, cut: &[u32]) -> bool
         && (is_before(tables.lower(row.from), cut) && tables.is_below_end(cut, row.to))
 }
 
-/// Whether a list is in the interval of a row.
+// Whether a list is in the interval of a row.
 fn is_in(tables: &Tables, row: BookRow, list: &[u32]) -> bool
     requires { HasPlaces (length tables.now.cuts.items) row }
     ensures { let seen = row_seen tables.now.cuts.items row in
@@ -154,7 +154,7 @@ fn is_in(tables: &Tables, row: BookRow, list: &[u32]) -> bool
     !is_before(list, tables.lower(row.from)) && tables.is_below_end(list, row.to)
 }
 
-/// Whether a row may be returned at a list.
+// Whether a row may be returned at a list.
 fn may_return(tables: &Tables, row: BookRow, cut: &[u32], work: u64) -> bool
     requires { HasPlaces (length tables.now.cuts.items) row }
     ensures { result ≡ may_return cut.now work (row_seen tables.now.cuts.items row) }
@@ -163,7 +163,7 @@ fn may_return(tables: &Tables, row: BookRow, cut: &[u32], work: u64) -> bool
         && (is_in(tables, row, cut) && (is_before(tables.lower(row.from), cut) || work == 0))
 }
 
-/// Whether a path may be found in a row.
+// Whether a path may be found in a row.
 fn may_find(tables: &Tables, row: BookRow, path: &[u32]) -> bool
     requires { HasPlaces (length tables.now.cuts.items) row }
     ensures { result ≡ may_find path.now (row_seen tables.now.cuts.items row) }
@@ -171,7 +171,7 @@ fn may_find(tables: &Tables, row: BookRow, path: &[u32]) -> bool
     is_running(row.state) && is_in(tables, row, path)
 }
 
-/// Takes the first Queued row, where it has this number and the budget isn't exceeded.
+// Takes the first Queued row, where it has this number and the budget isn't exceeded.
 fn apply_took(tables: &mut Tables, worker: u16, row: u64) -> Result<bool, AllocError>
     requires { AreKept tables.old }
     ensures applied { IfOk result
@@ -191,7 +191,7 @@ fn apply_took(tables: &mut Tables, worker: u16, row: u64) -> Result<bool, AllocE
     Ok(true)
 }
 
-/// Claims the row of this number, where it is Queued.
+// Claims the row of this number, where it is Queued.
 fn apply_claimed(tables: &mut Tables, worker: u16, row: u64) -> Result<bool, AllocError>
     requires { AreKept tables.old }
     ensures applied { IfOk result
@@ -210,7 +210,7 @@ fn apply_claimed(tables: &mut Tables, worker: u16, row: u64) -> Result<bool, All
     Ok(true)
 }
 
-/// Closes the row of this number, where it is Running.
+// Closes the row of this number, where it is Running.
 fn apply_closed(tables: &mut Tables, row: u64, work: u64) -> bool
     requires { AreKept tables.old }
     ensures applied { HasApplied (seen tables.old) (Closed row work) None (seen tables.new) result }
@@ -226,7 +226,7 @@ fn apply_closed(tables: &mut Tables, row: u64, work: u64) -> bool
     true
 }
 
-/// Splits the row of this number at a list, where it may be.
+// Splits the row of this number at a list, where it may be.
 fn apply_split(tables: &mut Tables, row: u64, cut: &Choices) -> Result<bool, AllocError>
     requires { AreKept tables.old }
     ensures applied { let event = (Split row (length tables.old.cuts.items)) in
@@ -246,7 +246,7 @@ fn apply_split(tables: &mut Tables, row: u64, cut: &Choices) -> Result<bool, All
     Ok(true)
 }
 
-/// Returns the row of this number at a list, where it may be.
+// Returns the row of this number at a list, where it may be.
 fn apply_returned(
     tables: &mut Tables,
     row: u64,
@@ -270,7 +270,7 @@ fn apply_returned(
     Ok(true)
 }
 
-/// A path is found in the row of this number, where it may be.
+// A path is found in the row of this number, where it may be.
 fn apply_found(tables: &mut Tables, row: u64, path: &Choices, work: u64) -> Result<bool, AllocError>
     requires kept { AreKept tables.old }
     requires always { AlwaysHolds (seen tables.old) }

@@ -45,7 +45,7 @@ pub struct Survey {
     pub open: bool,
 }
 
-/// 1 of a Running row, 0 of others.
+// 1 of a Running row, 0 of others.
 fn running_of(state: RowState) -> usize
     ensures { result ≡ running_of state }
 {
@@ -69,7 +69,7 @@ pub fn is_running(state: RowState) -> bool
     matches!(state, RowState::Running { .. })
 }
 
-/// The work that counts of a row.
+// The work that counts of a row.
 fn work_unless(above: bool, state: RowState) -> u64
     ensures { result ≡ work_unless above state }
 {
@@ -79,14 +79,14 @@ fn work_unless(above: bool, state: RowState) -> u64
     }
 }
 
-/// Whether a row is still to be done.
+// Whether a row is still to be done.
 fn open_unless(above: bool, state: RowState) -> bool
     ensures { result ≡ open_unless above state }
 {
     (is_queued(state) || is_running(state)) && !above
 }
 
-/// The state of a new row.
+// The state of a new row.
 fn queued_unless(above: bool) -> RowState
     ensures { result ≡ queued_unless above }
 {
@@ -97,7 +97,7 @@ fn queued_unless(above: bool) -> RowState
     }
 }
 
-/// The state of a row that ends.
+// The state of a row that ends.
 fn done_unless(above: bool, work: u64, found: bool) -> RowState
     ensures { result ≡ done_unless above work found }
 {
@@ -108,14 +108,14 @@ fn done_unless(above: bool, work: u64, found: bool) -> RowState
     }
 }
 
-/// Whether a row that is returned stays whole: it is above best, or is returned at its lower end.
+// Whether a row that is returned stays whole: it is above best, or is returned at its lower end.
 fn stays_whole(above: bool, beyond: bool) -> bool
     ensures { result ≡ (above || not beyond) }
 {
     above || !beyond
 }
 
-/// Inserts a row where there is one; there must be room for it.
+// Inserts a row where there is one; there must be room for it.
 fn insert_row(rows: &mut Vec<BookRow>, place: usize, row: Option<BookRow>)
     requires place { place ≤ vec_len rows.old }
     requires room { vec_len rows.old < vec_capacity rows.old }
@@ -131,7 +131,7 @@ fn insert_row(rows: &mut Vec<BookRow>, place: usize, row: Option<BookRow>)
     }
 }
 
-/// Adds a list where there is one; there must be room for it.
+// Adds a list where there is one; there must be room for it.
 fn push_cut(cuts: &mut Vec<Choices>, cut: Option<Choices>)
     requires room { vec_len cuts.old < vec_capacity cuts.old }
     ensures items { cuts.new.items ≡ cuts.old.items ++ option_to_list cut }
@@ -143,7 +143,7 @@ fn push_cut(cuts: &mut Vec<Choices>, cut: Option<Choices>)
     }
 }
 
-/// A Queued row is Dropped.
+// A Queued row is Dropped.
 fn dropped(row: BookRow) -> BookRow
     ensures { result ≡ dropped row }
 {
@@ -156,7 +156,7 @@ fn dropped(row: BookRow) -> BookRow
     row
 }
 
-/// Drops the Queued rows among the rows from `first` on.
+// Drops the Queued rows among the rows from `first` on.
 fn drop_rows(rows: &mut Vec<BookRow>, first: usize)
     requires { first ≤ vec_len rows.old }
     ensures items { rows.new.items
@@ -171,7 +171,7 @@ fn drop_rows(rows: &mut Vec<BookRow>, first: usize)
     }
 }
 
-/// The first Queued row, where the rows up to this one are known.
+// The first Queued row, where the rows up to this one are known.
 fn first_queued(first: Option<Spot>, place: usize, row: BookRow) -> Option<Spot>
     ensures some { IfSome first (λ spot. result ≡ Some spot) }
     ensures none { first ≡ None
@@ -310,8 +310,8 @@ impl Tables {
         Ok(())
     }
 
-    /// Puts `row`, and `rest` after it where there is one, in the place of a row, and records an
-    /// event with the list that it names.
+    // Puts `row`, and `rest` after it where there is one, in the place of a row, and records an
+    // event with the list that it names.
     fn put(
         &mut self,
         spot: Spot,

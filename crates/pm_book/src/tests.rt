@@ -1,3 +1,4 @@
+//! Tests of the book: each answer, and ten thousand random events beside a plain book.
 ghost use Rattle.std.specs.Prelude.{◌≡◌};
 ghost use Rattle.pm_book.specs.Rows.{is_within};
 
@@ -21,7 +22,7 @@ fn taken(rt: &impl Abort, book: &mut Book, worker: u16) -> Ticket {
     }
 }
 
-/// What `take` answers where it gives no ticket.
+// What `take` answers where it gives no ticket.
 fn no_task(rt: &impl Abort, book: &mut Book, worker: u16) -> &'static str {
     match book.take(worker) {
         Ok(Taken::Task(ticket)) => {
@@ -57,7 +58,7 @@ fn outcome(ended: Ended) -> &'static str {
     }
 }
 
-/// Whether a list is in the interval of a ticket.
+// Whether a list is in the interval of a ticket.
 fn holds(ticket: &Ticket, list: &[u32]) -> bool
     ensures { result ≡ is_within ticket.now.from ticket.now.to list.now }
 {
@@ -80,7 +81,7 @@ fn given_back(book: &mut Book, ticket: Ticket, at: Choices, work: u64) -> &'stat
     outcome(book.give_back(ticket, Some(at), work))
 }
 
-/// The first eleven steps of the long example: a book of budget 100, and the ticket of row 0.
+// The first eleven steps of the long example: a book of budget 100, and the ticket of row 0.
 fn eleven_steps(rt: &impl Abort, alloc: Global) -> (Book, Ticket) {
     let mut book = Book::new(alloc, 100).expect(rt, "memory");
     let mut whole = taken(rt, &mut book, 0);
@@ -139,7 +140,7 @@ fn is_gone(ticket: Option<Ticket>) -> bool {
     }
 }
 
-/// Whether a book is the replay of its own history, row by row.
+// Whether a book is the replay of its own history, row by row.
 fn replays(rt: &impl Abort, alloc: Global, budget: u64, book: &Book) -> bool {
     let again = replay(alloc, budget, book.cuts(), book.events()).expect(rt, "a book");
     again.rows() == book.rows()
@@ -275,8 +276,8 @@ fn tickets_of_another_book(rt: HostRuntime) {
     assert_eq!(rt; book.events().len(), 0);
 }
 
-/// A row of the plain model. Lists of one number `k` stand at the place `k + 1` of a line, the
-/// empty list at 0, and the end of all lists at `END`.
+// A row of the plain model. Lists of one number `k` stand at the place `k + 1` of a line, the
+// empty list at 0, and the end of all lists at `END`.
 #[derive(Clone, Copy)]
 struct PlainRow {
     number: u64,
@@ -287,7 +288,7 @@ struct PlainRow {
 
 const END: u64 = 1 << 31;
 
-/// A book over lists of one number, written plainly.
+// A book over lists of one number, written plainly.
 #[derive(Drop)]
 struct PlainBook {
     rows: Vec<PlainRow>,
@@ -303,7 +304,7 @@ fn is_above(best: Option<u64>, from: u64) -> bool {
     }
 }
 
-/// What a row becomes that ends.
+// What a row becomes that ends.
 fn plain_end(best: Option<u64>, row: PlainRow, work: u64, found: bool) -> PlainRow {
     let state = if is_above(best, row.from) {
         RowState::Dropped
@@ -313,7 +314,7 @@ fn plain_end(best: Option<u64>, row: PlainRow, work: u64, found: bool) -> PlainR
     PlainRow { state, ..row }
 }
 
-/// A place from `low` on and below `high`.
+// A place from `low` on and below `high`.
 fn between(low: u64, high: u64, dice: u64) -> u64 {
     if low < high {
         low + dice % (high - low)
@@ -332,7 +333,7 @@ impl PlainBook {
         }
     }
 
-    /// Takes the first Queued row, if there is one.
+    // Takes the first Queued row, if there is one.
     fn take(&mut self, worker: u16) -> Option<Event> {
         let mut first = None;
         for (place, row) in self.rows.iter().enumerate() {
@@ -475,7 +476,7 @@ impl PlainBook {
         }))
     }
 
-    /// One event at random, where the one that the dice show may happen.
+    // One event at random, where the one that the dice show may happen.
     fn event(&mut self, dice: u64) -> Result<Option<Event>, AllocError> {
         let kind = dice % 64;
         // A book of few rows isn't ended.
@@ -532,7 +533,7 @@ impl PlainBook {
     }
 }
 
-/// The list at a place of the line.
+// The list at a place of the line.
 fn list_at(alloc: Global, place: u64) -> Result<Choices, AllocError> {
     if place == 0 {
         return Choices::from_slice(alloc, &[]);
@@ -541,7 +542,7 @@ fn list_at(alloc: Global, place: u64) -> Result<Choices, AllocError> {
     Choices::from_slice(alloc, &[number])
 }
 
-/// The place of the list that a row's end names.
+// The place of the list that a row's end names.
 fn place_of(cut: Option<u64>, cuts: &[u64], none: u64) -> u64 {
     match cut {
         None => none,
@@ -552,7 +553,7 @@ fn place_of(cut: Option<u64>, cuts: &[u64], none: u64) -> u64 {
     }
 }
 
-/// Ten thousand events that the plain book chose at random.
+// Ten thousand events that the plain book chose at random.
 #[test]
 fn random_run(rt: HostRuntime) -> Result<(), Fail> {
     let alloc = rt.alloc();

@@ -1,9 +1,9 @@
 -- The alternatives of the selected leaf are exactly its reductions and, where there is room, its extensions.
-use Rattle.std.proofs.Common.{◌≡◌, ℕ, zero, suc, ◌+◌, ◌-◌, ◌<◌, ◌≤◌, ◌⊎◌, inl, inr, Bool, true, false, cond, nat_lt, List, [], ◌∷◌, ◌++◌, map, get_or, Some, option_map, slice_get, refl, sym, ◌∙◌, ap, subst, arith, ltb-true, lt-ltb}
+use Rattle.std.proofs.Common.{◌≡◌, ℕ, zero, suc, ◌+◌, ◌-◌, ◌<◌, ◌≤◌, ◌⊎◌, inl, inr, Bool, true, false, cond, List, [], ◌∷◌, ◌++◌, map, get_or, Some, option_map, slice_get, refl, sym, ◌∙◌, ap, subst, arith, ltb-true, lt-ltb}
 use Rattle.std.specs.List.{range_with_len}
 use Rattle.std.proofs.lemmas.Option.{slice_get_within, slice_get-map, get_or_from_slice_get, slice_get-get_or}
 use Rattle.pm_logic.specs.Lists.{places}
-use Rattle.pm_logic.specs.Problem.{Literal, Clause}
+use Rattle.pm_logic.specs.Problem.{Clause}
 use Rattle.pm_logic.proofs.ListLemmas.{places-sound, places-complete}
 use Rattle.pm_calculus.specs.Connection.{Level}
 use Rattle.pm_calculus.specs.Skeleton.{Face, State, Step, start, extend, reduce, Subgoal, depth_of}

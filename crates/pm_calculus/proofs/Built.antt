@@ -1,12 +1,12 @@
 -- What a list of choices builds is what its steps build, and each of these may be taken.
-use Rattle.std.proofs.Common.{◌≡◌, ℕ, ◌+◌, ◌<◌, List, [], ◌∷◌, ◌++◌, length, Option, Some, None, IfSome, slice_get, fold, option_map, refl, sym, ◌∙◌, ap, subst, arith}
+use Rattle.std.proofs.Common.{◌≡◌, ℕ, ◌<◌, List, [], ◌∷◌, ◌++◌, length, Option, Some, None, IfSome, slice_get, fold, option_map, refl, sym, ◌∙◌, ap, subst, arith}
 use Rattle.std.proofs.lemmas.List.Sums.{fold_push}
 use Rattle.std.proofs.lemmas.Option.{slice_get_within, get_or_from_slice_get}
 use Rattle.pm_logic.specs.Problem.{Clause, is_start, start_clauses}
 use Rattle.pm_logic.proofs.ListLemmas.{places-sound}
 use Rattle.pm_calculus.specs.Connection.{Level}
-use Rattle.pm_calculus.specs.Skeleton.{Skeletons, State, empty, rooted, Step, start, extend, reduce, Subgoal, selected, after_step, built}
-use Rattle.pm_calculus.specs.Alternatives.{alternatives, alternatives_for, after_choice, state_after, with_choice, steps_of, IsStepAt, MayTake, MayTakeAll}
+use Rattle.pm_calculus.specs.Skeleton.{State, empty, rooted, Step, start, extend, reduce, Subgoal, selected, after_step, built}
+use Rattle.pm_calculus.specs.Alternatives.{alternatives, alternatives_for, after_choice, with_choice, IsStepAt, MayTake, MayTakeAll}
 use Rattle.pm_calculus.specs.Laws.{StatesAreBuilt, StepsMayBeTaken}
 use Rattle.pm_calculus.proofs.Alternatives.{IsStepFor, alternative_sound, map_among}
 

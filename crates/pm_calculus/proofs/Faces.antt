@@ -1,5 +1,5 @@
 -- What steps build shows the faces of its clauses' literals, and so those of each labelling.
-use Rattle.std.proofs.Common.{◌≡◌, ℕ, zero, suc, ◌+◌, Bool, true, false, cond, List, [], ◌∷◌, ◌++◌, map, Option, Some, None, IsSomeAnd, IfSome, slice_get, refl, sym, ◌∙◌, ap, ap₂, subst, arith}
+use Rattle.std.proofs.Common.{◌≡◌, ℕ, zero, suc, ◌+◌, Bool, true, false, cond, List, [], ◌∷◌, ◌++◌, map, Option, Some, None, IsSomeAnd, IfSome, slice_get, refl, sym, ◌∙◌, ap, subst}
 use Rattle.std.specs.List.{AllZip}
 use Rattle.std.specs.Option.{option_map_or}
 use Rattle.pm_logic.specs.Term.{Term}
@@ -8,7 +8,7 @@ use Rattle.pm_logic.specs.Tableau.{Node, leaf, inner, Nodes, no_nodes, more_node
 use Rattle.pm_calculus.specs.Substitution.{put_in_literal, IsInstance}
 use Rattle.pm_calculus.specs.Connection.{literal_on, literals_on, IsFamily, HasFamilies, HaveFamilies, Level}
 use Rattle.pm_calculus.specs.Skeleton.{Face, face_of, Skeleton, unclosed, closed, extended, Skeletons, no_skeletons, more_skeletons, State, empty, rooted, Step, start, extend, reduce, Subgoal, depth_of, is_closed_below, filled_below, filled_among, leaves, leaves_but, literals_at, extension, reduction, after_step, nodes_below, nodes_among}
-use Rattle.pm_calculus.specs.Alternatives.{alternatives, state_after}
+use Rattle.pm_calculus.specs.Alternatives.{state_after}
 use Rattle.pm_calculus.specs.Choices.{FitsBelow, FitAmong, IsLabelling, IsShownBy}
 use Rattle.pm_calculus.specs.Laws.{LabellingsShowNodes}
 use Rattle.pm_calculus.proofs.Growth.{kept}

@@ -1,12 +1,12 @@
 -- The least list that a tableau follows.
-use Rattle.std.proofs.Common.{◌≡◌, ℕ, ◌+◌, ◌<◌, ◌≤◌, inl, inr, true, List, [], ◌∷◌, length, Option, Some, None, IsSomeAnd, IfSome, slice_get, fold, option_map, refl, sym, ◌∙◌, ap, ap₂, subst, arith}
+use Rattle.std.proofs.Common.{◌≡◌, ℕ, inl, inr, true, List, [], ◌∷◌, Option, Some, None, IsSomeAnd, IfSome, slice_get, fold, option_map, refl, sym, ◌∙◌, ap, ap₂, subst, arith}
 use Rattle.std.proofs.lemmas.Bool.{cases_lt}
 use Rattle.pm_logic.specs.Tableau.{Tableau}
 use Rattle.pm_calculus.specs.Connection.{Level}
-use Rattle.pm_calculus.specs.Skeleton.{Skeletons, State, empty, rooted, Step, Subgoal, is_closed, are_closed_below, selected, after_step}
-use Rattle.pm_calculus.specs.Alternatives.{alternatives, alternatives_for, after_choice, state_after}
-use Rattle.pm_calculus.specs.Choices.{Fits, Follows}
-use Rattle.pm_calculus.specs.Agreement.{Agrees, AlternativeAgrees, IsLeastAlternative, AreLeast, IsLeastList}
+use Rattle.pm_calculus.specs.Skeleton.{State, empty, rooted, Step, Subgoal, is_closed, after_step}
+use Rattle.pm_calculus.specs.Alternatives.{alternatives, alternatives_for, after_choice}
+use Rattle.pm_calculus.specs.Choices.{Fits}
+use Rattle.pm_calculus.specs.Agreement.{Agrees, AlternativeAgrees, IsLeastAlternative, AreLeast}
 use Rattle.pm_calculus.specs.Laws.{LeastListsAreFollowed, LeastListsAreUnique}
 use Rattle.pm_calculus.proofs.Growth.{IsBegun, begun, begun_kept, begun_first, kept, none_selected}
 use Rattle.pm_calculus.proofs.TreesToLists.{fit_at_end}

@@ -1,5 +1,5 @@
 -- A list builds the same at each level at which it builds anything.
-use Rattle.std.proofs.Common.{◌≡◌, ℕ, zero, suc, ◌+◌, ◌<◌, ◌≤◌, ◌⊎◌, inl, inr, Bool, true, false, cond, List, [], ◌∷◌, ◌++◌, length, Option, Some, None, IsSomeAnd, slice_get, fold, option_map, refl, sym, ◌∙◌, ap, subst, arith, lt-ltb}
+use Rattle.std.proofs.Common.{◌≡◌, ℕ, zero, suc, ◌<◌, ◌≤◌, ◌⊎◌, inl, inr, Bool, true, false, cond, List, [], ◌∷◌, ◌++◌, length, Option, Some, None, IsSomeAnd, slice_get, fold, option_map, refl, sym, ◌∙◌, ap, subst, arith, lt-ltb}
 use Rattle.std.proofs.lemmas.Bool.{cases_lt}
 use Rattle.pm_logic.specs.declared.problem.Class.{Class}
 use Rattle.pm_logic.specs.declared.problem.Class.TheVariants.{Plain}
@@ -8,9 +8,9 @@ use Rattle.pm_logic.specs.declared.tableau.BoundKind.{BoundKind}
 use Rattle.pm_logic.specs.Problem.{Problem}
 use Rattle.pm_logic.specs.Tableau.{Tableau}
 use Rattle.pm_calculus.specs.Connection.{Level, IsInClass}
-use Rattle.pm_calculus.specs.Skeleton.{Skeletons, State, empty, rooted, Step, extend, Subgoal, selected, is_closed, after_step}
+use Rattle.pm_calculus.specs.Skeleton.{Skeletons, State, empty, rooted, Step, Subgoal, selected, is_closed, after_step}
 use Rattle.pm_calculus.specs.Alternatives.{reductions, extensions, used, has_room, alternatives_for, alternatives, after_choice, state_after}
-use Rattle.pm_calculus.specs.Choices.{Fits, IsReachedState, plain_level}
+use Rattle.pm_calculus.specs.Choices.{Fits, IsReachedState}
 use Rattle.pm_calculus.specs.Laws.{FollowedListsAreComplete, StatesAgree}
 use Rattle.pm_calculus.proofs.Alternatives.{extension_sound}
 use Rattle.pm_calculus.proofs.Sizes.{size_built, size_fits, size_step, room_needed}

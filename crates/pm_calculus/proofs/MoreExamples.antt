@@ -1,5 +1,5 @@
 -- Worked examples of the orders, the start rules and the bounds, mostly by computation.
-use Rattle.std.proofs.Common.{◌≡◌, ℕ, zero, ◌+◌, inl, inr, Bool, true, false, not, List, [], ◌∷◌, ◌++◌, get_or, IsSomeAnd, Contains, refl, sym, ◌∙◌, ap, subst, arith}
+use Rattle.std.proofs.Common.{◌≡◌, ℕ, zero, inl, inr, Bool, true, false, not, List, [], ◌∷◌, get_or, refl, sym, ◌∙◌, ap, subst, arith}
 use Rattle.pm_logic.specs.declared.problem.Class.{Class}
 use Rattle.pm_logic.specs.declared.problem.Class.TheVariants.{Plain, Regular}
 use Rattle.pm_logic.specs.Term.{Term, var}
@@ -9,7 +9,7 @@ use Rattle.pm_calculus.specs.Substitution.{put_in_literal, each_among, IsInstanc
 use Rattle.pm_calculus.specs.Connection.{IsFamily, HaveFamilies, AreRegularBelow, IsRegularFor}
 use Rattle.pm_calculus.specs.Skeleton.{Skeletons, unclosed, closed, extended, no_skeletons, more_skeletons}
 use Rattle.pm_calculus.specs.Choices.{FitAmong, IsReached, IsLabellingOf}
-use Rattle.pm_calculus.specs.Examples.{p, q, x, y, holds, fails, ground, level, counted_level, closed_by, circle, later, square, pairs, closed_twice, pairs_tableau, roles, fork, AncestorExample, ExtensionOrderExample, ReductionOrderExample, VariableOrderExample, StartExample, InstancesExample}
+use Rattle.pm_calculus.specs.Examples.{p, q, x, y, holds, fails, ground, level, counted_level, closed_by, circle, later, square, pairs, pairs_tableau, fork, AncestorExample, ExtensionOrderExample, ReductionOrderExample, VariableOrderExample, StartExample, InstancesExample}
 use Rattle.pm_calculus.proofs.WorkedExamples.{plus, minus, opposite, inner_case, leaf_case, open_case, none_case, first_same, second_same, absent_nil, absent_one, absent_two, other_sign, other_predicate}
 
 circle_reached : IsReached (level circle Plain 3) (0 ∷ 0 ∷ 1 ∷ [])

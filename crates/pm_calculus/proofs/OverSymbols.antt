@@ -1,6 +1,6 @@
 -- The general tableau of a valid problem is over the problem's symbols: putting a variable for each part of a
 -- term that isn't would give another labelling, and no instance has fewer symbols.
-use Rattle.std.proofs.Common.{◌≡◌, ℕ, zero, suc, ◌+◌, ◌≤◌, ◌<◌, ◌⊎◌, inl, inr, Bool, true, false, cond, ◌&&◌, ◌==◌, List, [], ◌∷◌, ◌++◌, length, map, max, get_or, Option, Some, None, IsSomeAnd, All, Contains, slice_get, refl, sym, ◌∙◌, ap, ap₂, subst, arith, eq-eqb}
+use Rattle.std.proofs.Common.{◌≡◌, ℕ, zero, suc, ◌+◌, ◌≤◌, ◌⊎◌, Bool, true, false, cond, ◌&&◌, ◌==◌, List, [], ◌∷◌, length, map, max, get_or, Option, Some, None, IsSomeAnd, All, slice_get, refl, sym, ◌∙◌, ap, ap₂, subst, arith, eq-eqb}
 use Rattle.std.specs.Option.{option_map_or}
 use Rattle.std.proofs.lemmas.Bool.{eqb-true}
 use Rattle.std.proofs.lemmas.List.{length-map}
@@ -11,11 +11,11 @@ use Rattle.pm_logic.specs.Term.{Term, var, app, Terms, no_terms, more_terms, lis
 use Rattle.pm_logic.specs.Problem.{Symbol, Literal, Clause, Problem, HasShape, IsTermOver, AreTermsOver, IsLiteralOver, IsClauseOver, IsValid}
 use Rattle.pm_logic.specs.Tableau.{Node, leaf, inner, Nodes, no_nodes, more_nodes, Tableau, Entry, preorder_of, preorder_among}
 use Rattle.pm_logic.proofs.ListLemmas.{Contains-from}
-use Rattle.pm_calculus.specs.Substitution.{put, put_among, put_in_literal, IsInstance, each_below, each_among, each_in_tableau, AreComplementary}
-use Rattle.pm_calculus.specs.Connection.{literal_on, literals_on, IsFamily, HasFamilies, HaveFamilies, IsOver, Level}
+use Rattle.pm_calculus.specs.Substitution.{put, put_among, put_in_literal, IsInstance, each_below, each_among, each_in_tableau}
+use Rattle.pm_calculus.specs.Connection.{literal_on, literals_on, IsFamily, HasFamilies, HaveFamilies, IsOver}
 use Rattle.pm_calculus.specs.Skeleton.{State}
 use Rattle.pm_calculus.specs.Alternatives.{state_after}
-use Rattle.pm_calculus.specs.Choices.{IsLabelling, IsLabellingOf, IsGeneral}
+use Rattle.pm_calculus.specs.Choices.{IsLabelling}
 use Rattle.pm_calculus.specs.Laws.{GeneralTableauxAreOverSymbols}
 use Rattle.pm_calculus.proofs.Growth.{and_true}
 use Rattle.pm_calculus.proofs.Instances.{KeepsLabels, labelling_kept}

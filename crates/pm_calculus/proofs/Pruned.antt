@@ -1,5 +1,5 @@
 -- Tableaux, cut at the leaves that a skeleton has unclosed.
-use Rattle.std.proofs.Common.{◌≡◌, ℕ, ◌+◌, ◌≤◌, ◌⊎◌, inl, inr, Bool, true, false, cond, List, [], ◌∷◌, ◌++◌, IsSomeAnd, Contains, slice_get, refl, sym, ap₂, subst, arith}
+use Rattle.std.proofs.Common.{◌≡◌, ℕ, ◌≤◌, ◌⊎◌, inl, inr, Bool, true, false, cond, List, [], ◌∷◌, ◌++◌, IsSomeAnd, Contains, slice_get, refl, sym, ap₂, subst, arith}
 use Rattle.pm_logic.specs.declared.problem.Class.{Class}
 use Rattle.pm_logic.specs.declared.problem.Class.TheVariants.{Plain, Regular}
 use Rattle.pm_logic.specs.declared.tableau.BoundKind.{BoundKind}

@@ -1,13 +1,13 @@
 -- The sizes of what steps build, and of the tableaux that it is part of.
-use Rattle.std.proofs.Common.{◌≡◌, ℕ, zero, suc, ◌+◌, ◌<◌, ◌≤◌, ◌⊎◌, inl, inr, Bool, true, false, cond, List, [], ◌∷◌, ◌++◌, length, max, Option, Some, None, refl, sym, ap, ap₂, subst, arith}
+use Rattle.std.proofs.Common.{◌≡◌, ℕ, zero, suc, ◌+◌, ◌<◌, ◌≤◌, ◌⊎◌, inl, inr, Bool, true, false, cond, List, [], ◌∷◌, ◌++◌, length, max, Option, Some, refl, sym, ap, ap₂, subst, arith}
 use Rattle.std.specs.Option.{option_map_or}
 use Rattle.std.proofs.lemmas.Option.{slice_get_within}
 use Rattle.pm_logic.specs.declared.tableau.BoundKind.{BoundKind}
 use Rattle.pm_logic.specs.declared.tableau.BoundKind.TheVariants.{Depth, Inferences}
 use Rattle.pm_logic.specs.Problem.{Literal, Clause}
 use Rattle.pm_logic.specs.Tableau.{Node, leaf, inner, Nodes, no_nodes, more_nodes, Tableau, depth_below, depth_among, instances_below, instances_among, size}
-use Rattle.pm_calculus.specs.Skeleton.{Face, Skeleton, unclosed, closed, extended, Skeletons, no_skeletons, more_skeletons, State, empty, rooted, Step, start, extend, reduce, Subgoal, depth_of, is_closed_below, extended_below, extended_among, instances_built, selected_below, selected_among, selected, filled_below, filled_among, leaves, leaves_but, literals_at, extension, reduction, after_step}
-use Rattle.pm_calculus.specs.Alternatives.{used, opposite, IsHead}
+use Rattle.pm_calculus.specs.Skeleton.{Face, Skeleton, unclosed, closed, extended, Skeletons, no_skeletons, more_skeletons, State, empty, rooted, Step, start, extend, reduce, Subgoal, depth_of, is_closed_below, extended_below, extended_among, instances_built, selected_below, selected_among, selected, filled_below, filled_among, leaves_but, literals_at, extension, reduction, after_step}
+use Rattle.pm_calculus.specs.Alternatives.{used, IsHead}
 use Rattle.pm_calculus.specs.Choices.{FitsBelow, FitAmong, Fits}
 use Rattle.pm_calculus.specs.Agreement.{AgreesBelow, AgreeAmong, Agrees}
 use Rattle.pm_calculus.proofs.Growth.{one_deeper}

@@ -9,8 +9,8 @@ use Rattle.pm_logic.specs.Problem.{Literal, Clause, start_clauses}
 use Rattle.pm_logic.specs.Tableau.{Node, leaf, inner, Nodes, no_nodes, more_nodes, Tableau}
 use Rattle.pm_calculus.specs.Substitution.{put_in_literal, IsInstance, AreComplementary}
 use Rattle.pm_calculus.specs.Connection.{literal_on, literals_on, IsFamily, HasFamilies, HaveFamilies, IsClosedBelow, AreClosedBelow, HasComplementaryLeaf, IsConnectedBelow, AreConnectedBelow, Level, IsInClass}
-use Rattle.pm_calculus.specs.Skeleton.{Face, face_of, Skeleton, unclosed, closed, extended, Skeletons, no_skeletons, more_skeletons, State, empty, rooted, Step, start, extend, reduce, Subgoal, depth_of, is_closed_below, are_closed_below, is_closed, selected_below, selected_among, selected, filled_below, filled_among, leaves, leaves_but, literals_at, extension, reduction, after_step}
-use Rattle.pm_calculus.specs.Alternatives.{has_face, opposite, alternatives, alternatives_for, after_choice, state_after, IsHead, IsStepAt}
+use Rattle.pm_calculus.specs.Skeleton.{Face, face_of, Skeleton, unclosed, closed, extended, Skeletons, no_skeletons, more_skeletons, State, empty, rooted, Step, start, extend, reduce, Subgoal, is_closed_below, are_closed_below, is_closed, selected_below, selected_among, selected, filled_below, filled_among, leaves, leaves_but, literals_at, extension, reduction, after_step}
+use Rattle.pm_calculus.specs.Alternatives.{has_face, opposite, alternatives, alternatives_for, after_choice, state_after, IsStepAt}
 use Rattle.pm_calculus.specs.Choices.{at_depth, FitsBelow, FitAmong, Fits, IsReachedState, IsComplete, Follows}
 use Rattle.pm_calculus.specs.Agreement.{AgreesBelow, AgreeAmong, Agrees}
 use Rattle.pm_calculus.specs.Laws.{TableauxFollowCompleteLists, ListsAndTableauxAgree}

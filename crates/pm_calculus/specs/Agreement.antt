@@ -4,7 +4,7 @@ use Rattle.pm_logic.specs.Problem.{Literal}
 use Rattle.pm_logic.specs.Tableau.{Node, leaf, inner, Nodes, no_nodes, more_nodes, Tableau}
 use Rattle.pm_calculus.specs.Substitution.{AreComplementary}
 use Rattle.pm_calculus.specs.Connection.{literal_on, Level}
-use Rattle.pm_calculus.specs.Skeleton.{face_of, Skeleton, unclosed, closed, extended, Skeletons, no_skeletons, more_skeletons, State, empty, rooted, is_closed, Step, after_step}
+use Rattle.pm_calculus.specs.Skeleton.{face_of, Skeleton, unclosed, closed, extended, Skeletons, no_skeletons, more_skeletons, State, empty, rooted, is_closed, after_step}
 use Rattle.pm_calculus.specs.Alternatives.{alternatives, after_choice}
 use Rattle.pm_calculus.specs.Choices.{at_depth}
 

@@ -1,5 +1,5 @@
 -- What holds of the definitions: each law stands on a function of src/laws.rt.
-use Rattle.std.specs.Prelude.{◌≡◌, ◌≢◌, ◌↔◌, ℕ, ◌<◌, ◌⊎◌, List, [], ◌∷◌, ◌++◌, length, map, Some, option_map, slice_get}
+use Rattle.std.specs.Prelude.{◌≡◌, ◌≢◌, ◌↔◌, ℕ, ◌<◌, ◌⊎◌, List, [], ◌∷◌, ◌++◌, map, Some, option_map}
 use Rattle.std.specs.List.{AllZip}
 use Rattle.pm_logic.specs.Term.{Term}
 use Rattle.pm_logic.specs.Problem.{Symbol, Literal, Clause, Problem, IsClauseOver, IsValid}

@@ -10,7 +10,7 @@ ghost use Rattle.pm_lanes.specs.Lanes.{IsZeroWhere, agrees, is_compatible};
 
 use std::simd::prelude::*;
 
-/// The places of one vector: 16 bytes, a register of every processor that the compiler builds for.
+// The places of one vector: 16 bytes, a register of every processor that the compiler builds for.
 const LANES: usize = 4;
 
 /// The first place from `from` on at which the goal's four numbers agree with those of the columns, or

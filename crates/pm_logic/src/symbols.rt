@@ -18,7 +18,7 @@ pub enum Kind {
     Equality,
 }
 
-/// A symbol as it is kept.
+// A symbol as it is kept.
 #[derive(Debug, Drop)]
 struct Symbol {
     text: String,

@@ -24,7 +24,7 @@ impl Model for TermId {
     ghost inverse = { λ n. record { 0 = n } };
 }
 
-/// A term whose arguments are rows of the table.
+// A term whose arguments are rows of the table.
 #[derive(Debug, PartialEq, Eq, Hash, Drop)]
 enum Entry {
     Var(usize),

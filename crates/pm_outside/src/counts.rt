@@ -1,3 +1,4 @@
+//! The counts of a library: its faults, its missing files, and those over a limit.
 ghost use Rattle.std.specs.Prelude.{◌≡◌, ◌≤◌};
 ghost use Rattle.pm_outside.specs.Counts.{counts_after, no_counts};
 

@@ -1,3 +1,4 @@
+//! The library of the host: its files.
 ghost use Rattle.std.specs.Prelude.{◌≡◌, ◌≢◌, ℕ, List, ◌+◌, ◌^◌, ◌≤◌, ◌<◌, None, Err, vec_len, IfErr, Some, length, IfOk, IfSome, IsSomeAnd, IsErrOf};
 ghost use Rattle.std.specs.FinMap as map;
 ghost use Rattle.std.specs.Io.KnownBytes.{Consumes};
@@ -14,7 +15,7 @@ use std::io::{Error, ErrorKind, Read};
 use std::marker::Model;
 use std::rt::Files;
 
-/// The most bytes that one read asks for.
+// The most bytes that one read asks for.
 const PIECE: usize = 8192;
 
 /// The files of the system, by their paths. It tells none of them.

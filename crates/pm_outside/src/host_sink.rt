@@ -1,3 +1,4 @@
+//! The sink of the host: standard output.
 ghost use Rattle.std.specs.Prelude.{◌≡◌, ℕ, ◌≤◌, None, MatchResult, OnOk, OnErr};
 ghost use Rattle.pm_outside.specs.Counts.{next_count};
 ghost use Rattle.pm_outside.specs.Outside.{Appends, AppendsPrefix, Rose};

@@ -1,3 +1,4 @@
+//! What a run reads: files by their names.
 ghost use Rattle.std.specs.Prelude.{◌≡◌, ℕ, ◌<◌, ◌≤◌, Option, None, Some, length, IfOk, IfSome, IsSomeAnd, IsErrOf};
 ghost use Rattle.std.specs.FinMap as map;
 ghost use Rattle.pm_outside.specs.Outside.{Files, Rose};

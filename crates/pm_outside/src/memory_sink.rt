@@ -1,3 +1,4 @@
+//! A sink in memory, with room for so many bytes.
 ghost use Rattle.std.specs.Prelude.{◌≡◌, ℕ, ◌≤◌, ◌↔◌, Some, List, IfOk, OnOk, OnErr, IsErr, IsTrue, length};
 ghost use Rattle.std.specs.FinMap as map;
 ghost use Rattle.pm_outside.specs.MemorySink.{empty_sink, taken_of, fails, after_put};

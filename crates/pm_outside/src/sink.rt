@@ -1,3 +1,4 @@
+//! Where a run writes.
 ghost use Rattle.std.specs.Prelude.{◌≡◌, ℕ, ◌≤◌, List, Option, OnOk, OnErr};
 ghost use Rattle.pm_outside.specs.Outside.{Appends, AppendsPrefix, Rose};
 

@@ -1,4 +1,4 @@
-// Each public call, and what the objects answer in a run.
+//! Each public call, and what the objects answer in a run.
 use crate::{
     FetchFault, HostLibrary, HostSink, Library, MemoryLibrary, MemorySink, PutFault, Sink,
 };

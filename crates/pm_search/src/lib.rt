@@ -35,7 +35,7 @@ pub enum Turn {
     Paused { at: Choices, work: u64 },
 }
 
-/// Whether a search is at an attempt, has none left, or has answered Closed or Found.
+// Whether a search is at an attempt, has none left, or has answered Closed or Found.
 #[derive(Clone, Copy)]
 enum Stage {
     Attempting,
@@ -135,14 +135,14 @@ impl<S: Space> Search<S> {
         self.pause()
     }
 
-    /// Whether a next attempt is left.
+    // Whether a next attempt is left.
     fn is_attempting(&self) -> bool
         ensures { IsTrue result ↔ IsSome self.now.next }
     {
         matches!(self.stage, Stage::Attempting)
     }
 
-    /// Pauses at the next attempt, or closes where none is left.
+    // Pauses at the next attempt, or closes where none is left.
     fn pause(&mut self) -> Result<Turn, AllocError>
         requires { self.old.answered ≡ false }
         ensures ended { IfOk result (EndsTurn (S.key self.old.space) self.old) }
@@ -161,8 +161,8 @@ impl<S: Space> Search<S> {
         Ok(Turn::Closed { work })
     }
 
-    /// Passes attempts that the space knows to be hopeless, until `most` are made in all. False
-    /// where the next attempt isn't one.
+    // Passes attempts that the space knows to be hopeless, until `most` are made in all. False
+    // where the next attempt isn't one.
     fn pass(&mut self, most: u64) -> bool
         requires next { IsSome self.old.next }
         requires most { self.old.worked < most }
@@ -184,7 +184,7 @@ impl<S: Space> Search<S> {
         true
     }
 
-    /// Makes the next attempt, and answers its list where it is complete.
+    // Makes the next attempt, and answers its list where it is complete.
     fn attempt(&mut self) -> Result<Option<Choices>, AllocError>
         requires next { IsSome self.old.next }
         requires room { self.old.worked < 2 ^ 63 }

@@ -85,8 +85,8 @@ pub fn try_place<S: Space>(
     }
 }
 
-/// Answers the path where it is complete, and else puts the place at the first choice after it.
-/// After want of memory all is as before.
+// Answers the path where it is complete, and else puts the place at the first choice after it.
+// After want of memory all is as before.
 fn enter<S: Space>(
     space: &S,
     place: &mut Vec<u32>,
@@ -162,8 +162,8 @@ pub fn settle<S: Space>(
     }
 }
 
-/// Goes up from a place, or stays, to the next one that has its choice as an alternative. False
-/// where there is none.
+// Goes up from a place, or stays, to the next one that has its choice as an alternative. False
+// where there is none.
 fn climb<S: Space>(space: &mut S, place: &mut Vec<u32>, widths: &mut Vec<u32>) -> bool
     requires { IsSearchPlace (S.key space.old) (S.path space.old) place.old.items widths.old.items }
     ensures place { IsSearchPlace (S.key space.old)

@@ -6,8 +6,8 @@ ghost use Rattle.pm_search.specs.Inside.TreeLaws.{tree_laws};
 use super::*;
 use std::test::Fail;
 
-/// The lists of at most `depth` numbers from `least` on and below `branch`; complete is the last
-/// one.
+// The lists of at most `depth` numbers from `least` on and below `branch`; complete is the last
+// one.
 #[derive(Drop)]
 struct Tree {
     branch: u32,

@@ -307,7 +307,7 @@ impl<'p> Calculus<'p> {
         })
     }
 
-    /// What a step makes of a state, or None where it can't be taken.
+    // What a step makes of a state, or None where it can't be taken.
     fn apply(
         &self,
         alloc: Global,

@@ -11,8 +11,8 @@ use crate::texts::{push_levels, push_number};
 use pm_logic::{Literal, Node, NodeKind, Problem, Symbols, Tableau, tableau_depth, write_symbol};
 use std::alloc::{AllocError, Global};
 
-/// Whether the literals have the same predicate and opposite signs, which makes them complementary
-/// where they have no arguments.
+// Whether the literals have the same predicate and opposite signs, which makes them complementary
+// where they have no arguments.
 fn are_complementary(leaf: &Literal, ancestor: &Literal) -> bool
     ensures { (terms : List Term)
         → result ≡ has_face (opposite (face_of (literal_of terms leaf.now)))
@@ -21,7 +21,7 @@ fn are_complementary(leaf: &Literal, ancestor: &Literal) -> bool
     leaf.positive != ancestor.positive && leaf.predicate == ancestor.predicate
 }
 
-/// The depth of the first complementary literal on the branch; 0 where there is none.
+// The depth of the first complementary literal on the branch; 0 where there is none.
 fn closer(branch: &[&Literal], leaf: &Literal) -> usize
     ensures { (terms : List Term)
         → result ≡ closer (map (λ l. literal_of terms l.now) branch.now) (literal_of terms leaf.now) }
@@ -34,7 +34,7 @@ fn closer(branch: &[&Literal], leaf: &Literal) -> usize
     0
 }
 
-/// Appends the front of a node's line: its depth, and its literal's sign and word.
+// Appends the front of a node's line: its depth, and its literal's sign and word.
 fn push_front(
     text: &mut Vec<u8>,
     symbols: &Symbols,
@@ -54,8 +54,8 @@ fn push_front(
     Ok(())
 }
 
-/// Appends the line of a node: its depth, its literal, and how it is closed or extended. The branch
-/// has the literals above the node.
+// Appends the line of a node: its depth, its literal, and how it is closed or extended. The branch
+// has the literals above the node.
 fn push_node(
     text: &mut Vec<u8>,
     symbols: &Symbols,
@@ -83,7 +83,7 @@ fn push_node(
     Ok(())
 }
 
-/// Appends the lines of the nodes in pre-order.
+// Appends the lines of the nodes in pre-order.
 fn push_nodes(
     alloc: Global,
     text: &mut Vec<u8>,
@@ -103,8 +103,8 @@ fn push_nodes(
     Ok(())
 }
 
-/// Appends the certificate of the tableau. No literal has arguments, so there are no lines of
-/// terms.
+// Appends the certificate of the tableau. No literal has arguments, so there are no lines of
+// terms.
 fn push_certificate(
     alloc: Global,
     text: &mut Vec<u8>,

@@ -11,16 +11,16 @@ use crate::calculus::{Face, Step};
 use pm_logic::{Literal, Node, NodeKind, Problem, Tableau, TermTable};
 use std::alloc::{AllocError, Global};
 
-/// A literal of a clause that was attached and whose node isn't drawn yet.
+// A literal of a clause that was attached and whose node isn't drawn yet.
 #[derive(Clone, Copy, Debug, PartialEq, Eq)]
 struct Pending {
     depth: u32,
     face: Face,
-    /// Whether its parent closes it.
+    // Whether its parent closes it.
     closed: bool,
 }
 
-/// Draws the node of a pending literal.
+// Draws the node of a pending literal.
 fn draw_node(
     alloc: Global,
     tableau: &mut Tableau,
@@ -44,7 +44,7 @@ fn draw_node(
     })
 }
 
-/// Draws the leaves that their parents close, up to the next literal that a step is for.
+// Draws the leaves that their parents close, up to the next literal that a step is for.
 fn next_open(
     alloc: Global,
     tableau: &mut Tableau,
@@ -68,7 +68,7 @@ fn next_open(
     Ok(None)
 }
 
-/// Draws the pending literals as leaves.
+// Draws the pending literals as leaves.
 fn draw_leaves(
     alloc: Global,
     tableau: &mut Tableau,
@@ -85,8 +85,8 @@ fn draw_leaves(
     Ok(())
 }
 
-/// The literals of a clause, to be drawn at this depth. The one of index `closed` is closed by its
-/// parent.
+// The literals of a clause, to be drawn at this depth. The one of index `closed` is closed by its
+// parent.
 fn pending_literals(
     alloc: Global,
     literals: &[Literal],
@@ -107,7 +107,7 @@ fn pending_literals(
     Ok(pending)
 }
 
-/// Puts the literals of a clause before the pending ones, the first of them next.
+// Puts the literals of a clause before the pending ones, the first of them next.
 fn push_literals(
     alloc: Global,
     pending: &mut Vec<Pending>,

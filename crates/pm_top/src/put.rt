@@ -4,7 +4,7 @@ ghost use Rattle.pm_outside.specs.Outside.{Appends, AppendsPrefix, Rose};
 
 use pm_outside::{PutFault, Sink};
 
-/// How many bytes a put takes at most.
+// How many bytes a put takes at most.
 const PIECE: usize = 4_096;
 
 /// Puts the text in pieces of 4,096 bytes, the last one shorter.

@@ -29,20 +29,20 @@ use std::alloc::{AllocError, Global};
 /// How many bytes a clause file has at most.
 pub const MAX_FILE_BYTES: u64 = 16_777_216;
 
-/// The last level that is searched.
+// The last level that is searched.
 const DEPTH: u32 = 30;
 
-/// How many attempts a level may need.
+// How many attempts a level may need.
 const BUDGET: u64 = 1_000_000;
 
-/// The text and status of a run, before anything is written.
+// The text and status of a run, before anything is written.
 #[derive(Debug, Drop)]
 struct Answer {
     status: Status,
     text: Vec<u8>,
 }
 
-/// Why a run ends without an answer.
+// Why a run ends without an answer.
 #[derive(Clone, Copy, Debug, PartialEq, Eq)]
 enum Fault {
     Missing,
@@ -61,7 +61,7 @@ impl From<AllocError> for Fault {
 }
 
 impl Fault {
-    /// The status of a run that ends so.
+    // The status of a run that ends so.
     fn status(self) -> Status
         ensures { result ≡ fault_status self }
     {
@@ -73,8 +73,8 @@ impl Fault {
     }
 }
 
-/// The text for a search that found this complete list at a level, after the exhausted ones: the
-/// list's general tableau as a certificate.
+// The text for a search that found this complete list at a level, after the exhausted ones: the
+// list's general tableau as a certificate.
 fn found_text(
     alloc: Global,
     calculus: &Calculus<'_>,
@@ -95,7 +95,7 @@ fn found_text(
     proof(alloc, calculus.problem(), &tableau, works, work)
 }
 
-/// Searches the tableaux of a problem whose predicates have no arguments, level by level.
+// Searches the tableaux of a problem whose predicates have no arguments, level by level.
 fn search(alloc: Global, problem: &Problem) -> Result<Answer, AllocError>
     requires { HasNoArguments problem.now }
     ensures { IfOk result (λ answer. EndsSearch problem.now answer.status answer.text.items) }
@@ -118,7 +118,7 @@ fn search(alloc: Global, problem: &Problem) -> Result<Answer, AllocError>
     }
 }
 
-/// Whether a literal of the problem has arguments.
+// Whether a literal of the problem has arguments.
 fn has_arguments(problem: &Problem) -> bool
     ensures none { result ≡ false → HasNoArguments problem.now }
     ensures some { result ≡ true → ¬ HasNoArguments problem.now }
@@ -131,7 +131,7 @@ fn has_arguments(problem: &Problem) -> bool
     false
 }
 
-/// Whether no literal of the clause has arguments.
+// Whether no literal of the clause has arguments.
 fn is_bare(clause: &Clause) -> bool
     ensures { result ≡ list_all (λ literal. length literal.args.items == 0) clause.now.literals.items }
 {
@@ -141,7 +141,7 @@ fn is_bare(clause: &Clause) -> bool
         .all(|literal| literal.args.is_empty())
 }
 
-/// The answer for bytes that aren't read.
+// The answer for bytes that aren't read.
 fn refuse(alloc: Global, error: CnfError) -> Result<Answer, AllocError>
     ensures { IfOk result (λ answer.
         (bytes : _) → Refuses standard_limits bytes error
@@ -156,7 +156,7 @@ fn refuse(alloc: Global, error: CnfError) -> Result<Answer, AllocError>
     }
 }
 
-/// Proves the clauses of a file of these bytes.
+// Proves the clauses of a file of these bytes.
 fn prove(alloc: Global, bytes: &[u8]) -> Result<Answer, AllocError>
     requires { length bytes.now ≤ MAX_FILE_BYTES }
     ensures { IfOk result (λ answer. EndsProof bytes.now answer.status answer.text.items) }
@@ -171,7 +171,7 @@ fn prove(alloc: Global, bytes: &[u8]) -> Result<Answer, AllocError>
     }
 }
 
-/// Writes the clauses of a file of these bytes.
+// Writes the clauses of a file of these bytes.
 fn write_clauses(alloc: Global, bytes: &[u8]) -> Result<Answer, AllocError>
     requires { length bytes.now ≤ MAX_FILE_BYTES }
     ensures { IfOk result (λ answer. EndsClauses bytes.now answer.status answer.text.items) }
@@ -185,7 +185,7 @@ fn write_clauses(alloc: Global, bytes: &[u8]) -> Result<Answer, AllocError>
     }
 }
 
-/// Does the job for a file of these bytes.
+// Does the job for a file of these bytes.
 fn do_job(alloc: Global, job: Job<'_>, bytes: &[u8]) -> Result<Answer, AllocError>
     requires { length bytes.now ≤ MAX_FILE_BYTES }
     ensures { IfOk result (λ answer.
@@ -197,7 +197,7 @@ fn do_job(alloc: Global, job: Job<'_>, bytes: &[u8]) -> Result<Answer, AllocErro
     }
 }
 
-/// What a run answers, unless a fault ends it.
+// What a run answers, unless a fault ends it.
 fn answer_words<L: Library>(
     alloc: Global,
     words: &[String],

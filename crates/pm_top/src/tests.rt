@@ -1,9 +1,10 @@
+//! Runs on libraries and sinks in memory: the texts and statuses of each end.
 use crate::{Status, run_alone};
 use pm_outside::{MemoryLibrary, MemorySink};
 use std::alloc::{AllocError, Global};
 use std::test::Fail;
 
-/// The words of a run.
+// The words of a run.
 fn words(alloc: Global, texts: &[&str]) -> Result<Vec<String>, AllocError> {
     let mut words = Vec::new(alloc);
     for text in texts {
@@ -12,7 +13,7 @@ fn words(alloc: Global, texts: &[&str]) -> Result<Vec<String>, AllocError> {
     Ok(words)
 }
 
-/// Does a job for a file of these bytes, and gives the status and the text.
+// Does a job for a file of these bytes, and gives the status and the text.
 fn run(alloc: Global, job: &str, bytes: &str) -> Result<(Status, String), Fail> {
     let mut library = MemoryLibrary::new(alloc)?;
     library.add("e.p", bytes.as_bytes())?;

@@ -14,7 +14,7 @@ pub fn push_number(text: &mut Vec<u8>, number: u64) -> Result<(), AllocError>
     text.extend_from_slice(buffer.format(number).as_bytes())
 }
 
-/// Appends the line of an exhausted level with its number of attempts.
+// Appends the line of an exhausted level with its number of attempts.
 fn push_level(text: &mut Vec<u8>, level: u64, work: u64) -> Result<(), AllocError>
     ensures { OnOk result (text.new.items ≡ text.old.items ++ level_line level work) }
 {

@@ -24,7 +24,7 @@ impl<'a> Job<'a> {
     }
 }
 
-/// Whether a word looks like an option.
+// Whether a word looks like an option.
 fn begins_with_dash(word: &str) -> bool
     ensures { result ≡ begins_with_dash word.now }
 {
