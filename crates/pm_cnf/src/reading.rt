@@ -1,11 +1,12 @@
 //! Reading clause files.
 ghost use Rattle.std.specs.Prelude.{◌≡◌, ◌<◌, ◌≤◌, ◌+◌, ◌-◌, ◌^◌, IfOk, IfErr, length, map};
-ghost use Rattle.pm_cnf.specs.Parsed.{item_of, AreUsual};
-ghost use Rattle.pm_cnf.specs.Readable.{IsRead};
-ghost use Rattle.pm_cnf.specs.Refusals.{Refuses, RefusesAt};
-ghost use Rattle.pm_cnf.specs.View.{lexeme_of};
-ghost use Rattle.pm_cnf.specs.Progress.{Reads};
+ghost use Rattle.pm_cnf.specs.Inside.Parsed.{item_of};
+ghost use Rattle.pm_cnf.specs.Inside.Readable.{IsRead};
+ghost use Rattle.pm_cnf.specs.Refusals.{Refuses};
+ghost use Rattle.pm_cnf.specs.Inside.View.{lexeme_of};
+ghost use Rattle.pm_cnf.specs.Inside.Progress.{AcceptsLexeme, RefusesAt};
 ghost use Rattle.pm_cnf.specs.Meaning.{IsProblemIn};
+ghost use Rattle.pm_cnf.specs.Limits.{AreUsual};
 
 use crate::error::{CnfError, CnfKind};
 use crate::item::Item;
@@ -17,12 +18,12 @@ use crate::token::Lexeme;
 use pm_logic::Problem;
 use std::alloc::Global;
 
-/// Reads the problem of a clause file.
+/// AcceptsLexeme the problem of a clause file.
 ///
 /// `bytes` are the whole file, fewer than 2^32 - 1 of them, and `limits` are within those of
-/// [`Limits::standard`]. The answer is the problem that the file has by its grammar (docs/FORMAT.md), or,
-/// exactly where the file has an offence, `CnfError::At` with the first one's kind and place.
-/// `CnfError::Memory` is answered for want of memory.
+/// [`Limits::standard`]. The answer is the problem that the file has by its grammar
+/// (docs/FORMAT.md), or, exactly where the file has an offence, `CnfError::At` with the first one's
+/// kind and place. `CnfError::Memory` is answered for want of memory.
 pub fn read(alloc: Global, bytes: &[u8], limits: &Limits) -> Result<Problem, CnfError>
     requires short { length bytes.now < 2 ^ 32 - 1 }
     requires usual { AreUsual limits.now }
@@ -33,7 +34,7 @@ pub fn read(alloc: Global, bytes: &[u8], limits: &Limits) -> Result<Problem, Cnf
     Ok(number_items(alloc, &items)?)
 }
 
-// Reads the items of a file.
+// AcceptsLexeme the items of a file.
 fn read_items<'a>(
     alloc: Global,
     bytes: &'a [u8],
@@ -58,11 +59,11 @@ fn read_items<'a>(
     Ok(parser.into_items())
 }
 
-// Reads one more lexeme.
+// AcceptsLexeme one more lexeme.
 fn read_lexeme<'a>(parser: &mut Parser<'a>, lexeme: Lexeme<'a>) -> Result<(), Refusal>
     requires usual { AreUsual parser.old.limits }
     requires room { parser.old.around + 1 < 2 ^ 64 }
-    ensures reads { Reads parser.old (lexeme_of lexeme.entry) parser.new result }
+    ensures reads { AcceptsLexeme parser.old (lexeme_of lexeme.entry) parser.new result }
     ensures room { parser.new.around ≤ parser.old.around + 1 }
 {
     match lexeme {

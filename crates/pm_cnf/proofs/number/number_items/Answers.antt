@@ -5,9 +5,9 @@ use Rattle.pm_logic.specs.Term.{Term}
 use Rattle.pm_logic.specs.Problem as logic
 use Rattle.pm_logic.specs.View.{clause_of}
 use Rattle.pm_cnf.specs.declared.item.Item.{Item}
-use Rattle.pm_cnf.specs.Parsed.{node_of, item_of}
-use Rattle.pm_cnf.proofs.ItemSteps.{ItemsSoFar, items_none, items_kept, items_dropped}
-use Rattle.pm_cnf.proofs.ReadItems.{item_read, name_printable, nodes_printable, items_more, item_room, terms_grow, nodes_hold, items_valid}
+use Rattle.pm_cnf.specs.Inside.Parsed.{node_of, item_of}
+use Rattle.pm_cnf.proofs.parts.ItemSteps.{ItemsSoFar, items_none, items_kept, items_dropped}
+use Rattle.pm_cnf.proofs.parts.ReadItems.{item_read, name_printable, nodes_printable, items_more, item_room, terms_grow, nodes_hold, items_valid}
 use Rattle.pm_cnf.proofs.number.number_items.Goals as goal
 use Rattle.pm_cnf.proofs.number.number_items.Goals.{then-is_kept+in_ok-clause+in_ok-push, else-is_kept}
 

@@ -1,0 +1,36 @@
+-- What a file's items are like, once they were read.
+use Rattle.std.specs.Prelude.{◌≡◌, ℕ, ◌-◌, ◌^◌, ◌<◌, ◌≤◌, List, [], map, length, All}
+use Rattle.std.specs.List.{flat_map}
+use Rattle.pm_logic.specs.Problem.{Symbol, IsPrintable}
+use Rattle.pm_cnf.specs.declared.error.CnfKind.{CnfKind}
+use Rattle.pm_cnf.specs.declared.limits.Limits.{Limits}
+use Rattle.pm_cnf.specs.Lexemes.{Lexeme, Lexes, tokens_in}
+use Rattle.pm_cnf.specs.Grammar.{word_text, Name, word, integer, Item, AreItems, file_places, tokens_of}
+use Rattle.pm_cnf.specs.Offences.{IsOffence}
+use Rattle.pm_cnf.specs.Meaning.{literals_of, kept_literals, literal_symbols, item_symbols}
+use Rattle.pm_cnf.specs.Inside.Draft.{Written, written}
+
+abbrev pub HasPrintableName : Name → Type 0
+HasPrintableName (word w) = IsPrintable (word_text w)
+HasPrintableName (integer digits) = Unit {0}
+
+-- These are kept of items that a problem may have: not too many of them, of their literals and of
+-- their nodes, with words of printable bytes.
+pub record AreReadable (kept : List Written) : Type 0 where
+  pub items : List Item
+  pub are : kept ≡ map written items
+  pub few : length items ≤ 65536
+  pub literals : All (λ item. length (literals_of item.formula) ≤ 255) items
+  pub names : All (λ item. HasPrintableName item.name) items
+  pub printable : All (λ item. All (λ s. IsPrintable s.text) (item_symbols item)) items
+  pub short : length (flat_map (λ w. w.nodes) kept) < 2 ^ 32 - 1
+
+-- The bytes have no offence, and this is kept of the items that they are the text of.
+pub record IsRead (limits : Limits) (bytes : List ℕ) (kept : List Written) : Type 0 where
+  pub sound : (rest : List ℕ) (kind : CnfKind) → ¬ IsOffence limits bytes rest kind
+  pub lexemes : List Lexeme
+  pub leads : Lexes lexemes bytes []
+  pub items : List Item
+  pub are : AreItems items
+  pub file : tokens_of (file_places 0 items) ≡ tokens_in lexemes
+  pub keeps : kept ≡ map written items
