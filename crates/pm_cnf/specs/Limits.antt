@@ -1,5 +1,5 @@
 -- The limits that a file may be read with.
-use Rattle.std.specs.Prelude.{ℕ, ◌≤◌}
+use Rattle.std.specs.Prelude.{◌≤◌}
 use Rattle.pm_cnf.specs.declared.limits.Limits.{Limits}
 
 -- no limit is above the standard one

@@ -7,7 +7,7 @@ use Rattle.pm_cnf.specs.declared.parser.Expected.TheVariants as expect
 use Rattle.pm_cnf.specs.Lexemes.{Token, lower, upper, mark}
 use Rattle.pm_cnf.specs.Grammar.{Item, AreItems, Begins, an_item, a_literal, an_argument, a_next_literal, Placed, file_places, tokens_of}
 use Rattle.pm_cnf.specs.Offences.{AreWhole, MayStand, IsAtomPlace, IsTermPlace, MayBegin, IsAllowed, TermMayBegin, EndsWithAtom}
-use Rattle.pm_cnf.specs.Inside.Machine.{ParserState, start, step, step_at, step_from, run_from, run, begun, begun_at, innermost, formula_begun, literal_end_begun}
+use Rattle.pm_cnf.specs.Inside.Machine.{ParserState, start, step, step_at, run_from, run, begun, begun_at, innermost, formula_begun, literal_end_begun}
 use Rattle.pm_cnf.proofs.grammar.Follows.{Follows, Passes, follows_split, run_none, run_from-append, run-push}
 use Rattle.pm_cnf.proofs.grammar.Forward.{in_item, file_follows, file_runs}
 use Rattle.pm_cnf.proofs.grammar.Stages.{Stage, between_items, at_formula, at_literal, at_atom, after_predicate, after_literal, at_term, after_function, stage_state, Staged, IsAtomStage, AtVariable, none_is, step_staged, Completed, stage_completed}

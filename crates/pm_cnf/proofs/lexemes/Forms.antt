@@ -1,5 +1,5 @@
 -- What stands at the front of bytes has its form, and is no longer than they are.
-use Rattle.std.proofs.Common.{◌≡◌, ℕ, suc, zero, ◌+◌, ◌<◌, ◌≤◌, Bool, true, false, cond, eqb, List, [], ◌∷◌, ◌++◌, length, take, drop, Option, Some, None, refl, sym, subst, ◌⊎◌, arith, inl, inr, length-drop, length-take}
+use Rattle.std.proofs.Common.{◌≡◌, ℕ, suc, zero, ◌+◌, ◌<◌, ◌≤◌, Bool, true, false, cond, eqb, List, [], ◌∷◌, length, take, drop, Option, Some, None, refl, sym, subst, ◌⊎◌, arith, inl, inr, length-drop, length-take}
 use Rattle.std.specs.Prelude.{◌&&◌, ◌==◌, ◌||◌, not}
 use Rattle.std.specs.List.{prefix_len, list_all, All}
 use Rattle.std.specs.Option.{option_map}

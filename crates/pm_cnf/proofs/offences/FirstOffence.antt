@@ -1,5 +1,5 @@
 -- The reader refuses at the first offence.
-use Rattle.std.proofs.Common.{arith, ◌≡◌, ◌≢◌, ◌<◌, ◌≤◌, ◌⊎◌, ℕ, length, List, [], ◌∷◌, ◌++◌, ap, subst, ◌∙◌, refl, drop, inl, inr}
+use Rattle.std.proofs.Common.{arith, ◌≡◌, ◌≢◌, ◌<◌, ◌≤◌, ◌⊎◌, ℕ, length, List, [], ◌∷◌, ◌++◌, ap, subst, refl, drop, inl, inr}
 use Rattle.std.specs.Prelude.{Option, Some, None}
 use Rattle.std.specs.Option.{option_map}
 use Rattle.std.proofs.lemmas.Bool.{cases_eq}
@@ -9,7 +9,7 @@ use Rattle.pm_cnf.specs.declared.token.Mark.TheVariants.{OpenParenthesis, CloseP
 use Rattle.pm_cnf.specs.declared.parser.Expected.TheVariants.{Item}
 use Rattle.pm_cnf.specs.Lexemes.{Token, lower, upper, number, quoted, distinct, dollar, unequal, mark, Lexeme, lexeme_at, Lexes, tokens_in}
 use Rattle.pm_cnf.specs.Offences.{AreWhole, Offends, Applies, next_in, IsOffence, rank, IsFirstOffence, variables, variables_from, with_text}
-use Rattle.pm_cnf.specs.Inside.Machine.{ParserState, start, step, step_from, run, run_from, refusal}
+use Rattle.pm_cnf.specs.Inside.Machine.{ParserState, start, run, refusal}
 use Rattle.pm_cnf.proofs.lexemes.Chains.{rest_within, same_place, goes_beyond, Lexes-push}
 
 -- the kind is the first of those of which the token is an offence

@@ -1,5 +1,5 @@
 -- What a parser has read.
-use Rattle.std.specs.Prelude.{◌≡◌, ◌≢◌, ℕ, ◌≤◌, true, false, List, [], ◌∷◌, map, reverse, length, Result, Ok, Err, Option, Some, None}
+use Rattle.std.specs.Prelude.{◌≡◌, ◌≢◌, ℕ, true, false, List, [], ◌∷◌, map, reverse, length, Result, Ok, Err, Option, Some, None}
 use Rattle.pm_cnf.specs.declared.error.CnfKind.{CnfKind}
 use Rattle.pm_cnf.specs.declared.error.CnfKind.TheVariants as kinds
 use Rattle.pm_cnf.specs.declared.token.Mark.{Mark}

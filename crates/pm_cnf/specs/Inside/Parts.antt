@@ -10,7 +10,7 @@ use Rattle.pm_cnf.specs.declared.number.Part.{Part}
 use Rattle.pm_cnf.specs.declared.number.Part.TheVariants as parts
 use Rattle.pm_cnf.specs.Grammar.{word_text, Item}
 use Rattle.pm_cnf.specs.Inside.Draft.{Node, predicate, constant, function, variable}
-use Rattle.pm_cnf.specs.Meaning.{Gathers, Pairwise, with_texts, Kept, kept_literals, literal_symbols, IsLiteralOf, IsClauseOf, leaves_among, applications_among, literal_terms, clause_terms, item_symbols}
+use Rattle.pm_cnf.specs.Meaning.{Gathers, Pairwise, with_texts, Kept, IsLiteralOf, IsClauseOf, leaves_among, applications_among, literal_terms, clause_terms, item_symbols}
 
 -- whether the node is of a term
 abbrev pub is_argument : Node → Bool

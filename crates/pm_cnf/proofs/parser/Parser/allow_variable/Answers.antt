@@ -1,4 +1,4 @@
-use Rattle.std.proofs.Common.{◌≡◌, true, false, refl, sym, ◌∙◌, arith}
+use Rattle.std.proofs.Common.{◌≡◌, false, refl, sym, ◌∙◌, arith}
 use Rattle.pm_cnf.proofs.parsed.Variables.{is_key, is_known, is_too_many, has_room}
 use Rattle.pm_cnf.proofs.parser.Parser.allow_variable.Goals as goal
 use Rattle.pm_cnf.proofs.parser.Parser.allow_variable.Goals.{else-len-self-via-then-len-self+else-not-contains, else-len-self-via-else-len-self}

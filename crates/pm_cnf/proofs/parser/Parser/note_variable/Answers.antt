@@ -1,4 +1,4 @@
-use Rattle.std.proofs.Common.{◌≡◌, ◌∙◌, ap, refl}
+use Rattle.std.proofs.Common.{◌∙◌, ap, refl}
 use Rattle.pm_cnf.specs.Inside.Parts.{texts_of}
 use Rattle.pm_cnf.proofs.parts.TextLemmas.{texts-insert}
 use Rattle.pm_cnf.proofs.parser.Parser.note_variable.Goals as goal
