@@ -175,12 +175,16 @@ pub record IsProblemOf (items : List Item) (problem : logic.Problem) : Type 0 wh
   pub terms : Gathers [] (flat_map clause_terms problem.clauses) problem.terms
   pub clauses : Pairwise (IsClauseOf problem.symbols) (kept_items items) problem.clauses
 
--- The bytes have no offence; they are the text of items, and this is the problem of the items.
-pub record IsProblemIn (limits : Limits) (bytes : List ℕ) (problem : logic.Problem) : Type 0 where
+-- The bytes have no offence, and they are the text of these items.
+pub record IsTextOf (limits : Limits) (bytes : List ℕ) (items : List Item) : Type 0 where
   pub sound : (rest : List ℕ) (kind : CnfKind) → ¬ IsOffence limits bytes rest kind
   pub lexemes : List Lexeme
   pub leads : Lexes lexemes bytes []
-  pub items : List Item
   pub are : AreItems items
   pub file : tokens_of (file_places 0 items) ≡ tokens_in lexemes
+
+-- The bytes are the text of items, and this is the problem of the items.
+pub record IsProblemIn (limits : Limits) (bytes : List ℕ) (problem : logic.Problem) : Type 0 where
+  pub items : List Item
+  pub text : IsTextOf limits bytes items
   pub means : IsProblemOf items problem

@@ -316,8 +316,9 @@ impl<'a> Parser<'a> {
     }
 
     fn predicate(&mut self, word: Word<'a>) -> Result<(), Refusal>
-        ensures adds { AddsNode self.old (drafts.predicate self.old.positive (word_of word.entry) 0)
-            expect.PredicateEnd self.new result }
+        ensures adds { AddsNode self.old
+            (drafts.predicate_node self.old.positive (word_of word.entry) 0) expect.PredicateEnd
+            self.new result }
         ensures around { self.new.around ≡ self.old.around }
     {
         self.nodes.push(Node::Predicate {
@@ -330,8 +331,8 @@ impl<'a> Parser<'a> {
     }
 
     fn constant(&mut self, value: bool) -> Result<(), Refusal>
-        ensures adds { AddsNode self.old (drafts.constant self.old.positive value) expect.LiteralEnd
-            self.new result }
+        ensures adds { AddsNode self.old (drafts.constant_node self.old.positive value)
+            expect.LiteralEnd self.new result }
         ensures around { self.new.around ≡ self.old.around }
     {
         self.nodes.push(Node::Constant {
@@ -423,7 +424,7 @@ impl<'a> Parser<'a> {
 
     fn function(&mut self, word: Word<'a>) -> Result<(), Refusal>
         requires usual { AreUsual self.old.limits }
-        ensures adds { AddsArgument self.old (drafts.function (word_of word.entry) 0)
+        ensures adds { AddsArgument self.old (drafts.function_node (word_of word.entry) 0)
             expect.FunctionEnd self.new result }
         ensures around { self.new.around ≡ self.old.around }
     {

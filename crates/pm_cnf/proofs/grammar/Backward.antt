@@ -298,8 +298,8 @@ from_term_end (mark CloseParenthesis) ts e ih x i a l n [] h = let r = ih i (aft
 from_term_end (mark CloseParenthesis) ts e ih x i a l n (m ∷ counts) h = let r = ih i (after_term a l m counts) h in record { left = (no_arguments, r.left); are = ap (λ us. mark CloseParenthesis ∷ us) r.are }
 from_term_end t ts e ih x i a l n counts h = dead ts e h
 
-as_function_end : (ts : List Token) (i a l n : ℕ) (counts : List ℕ) → ParsesAs (arguments_left i a l (n ∷ counts)) ts → ParsesStage i (after_function a l n counts) ts
-as_function_end ts i a l n counts r = record { left = (no_arguments, r.left); are = r.are }
+parses_function_end : (ts : List Token) (i a l n : ℕ) (counts : List ℕ) → ParsesAs (arguments_left i a l (n ∷ counts)) ts → ParsesStage i (after_function a l n counts) ts
+parses_function_end ts i a l n counts r = record { left = (no_arguments, r.left); are = r.are }
 
 from_function_end : (t : Token) (ts : List Token) (e : ParserState) → ParsesTo e ts → (i a l n : ℕ) (counts : List ℕ) → run_from (function_end_step (stage_state i (after_function a l n counts)) t) ts ≡ Some e
     → ParsesStage i (after_function a l n counts) (t ∷ ts)
@@ -310,7 +310,7 @@ from_function_end (mark OpenParenthesis) ts e ih i a l n counts h =
       left = (more_arguments r.left.0 r.left.1.0, r.left.1.1);
       are = joins (mark OpenParenthesis) (term_places k 0 r.left.0) (others_places k 1 r.left.1.0) (arguments_left i a l (n ∷ counts) r.left.1.1) ∙ ap (λ us. mark OpenParenthesis ∷ us) r.are;
     }
-from_function_end t ts e ih i a l n counts h = as_function_end (t ∷ ts) i a l n counts (from_term_end t ts e ih expect.FunctionEnd i a l n counts h)
+from_function_end t ts e ih i a l n counts h = parses_function_end (t ∷ ts) i a l n counts (from_term_end t ts e ih expect.FunctionEnd i a l n counts h)
 
 -- a plain token, and the annotations after it
 plain_then : (t : Token) (ts : List Token) (i l : ℕ) (bs : List Bracket) → IsTrue (is_plain_token t) → ParsesStage i (in_brackets l bs) ts → ParsesStage i (in_brackets l bs) (t ∷ ts)

@@ -3,7 +3,7 @@ use Rattle.std.proofs.Common.{◌≡◌, ℕ, zero, suc, ◌⊎◌, inl, inr, Bo
 use Rattle.std.specs.List.{list_all}
 use Rattle.std.specs.Char.{is_ascii_digit}
 use Rattle.std.specs.Str.{bytes_eq}
-use Rattle.std.proofs.lemmas.Option.{same_Some}
+use Rattle.std.proofs.lemmas.Option.{same_Some, cond_some}
 use Rattle.pm_cnf.specs.declared.token.Mark.TheVariants.{OpenParenthesis, CloseParenthesis, OpenBracket, CloseBracket, OpenBrace, CloseBrace, Comma, FullStop, Bar, Tilde}
 use Rattle.pm_cnf.specs.declared.parser.Expected.{Expected}
 use Rattle.pm_cnf.specs.declared.parser.Expected.TheVariants as expect
@@ -79,13 +79,8 @@ none_is x is = cc
 staged : (i : ℕ) (g : Stage) (s : ParserState) → Some (stage_state i g) ≡ Some s → Staged s
 staged i g s is = record { items = i; stage = g; is = sym (same_Some (stage_state i g) s is) }
 
--- what a step behind a test gives
-pub if_some : (b : Bool) (x s : ParserState) → (if b then Some x else None) ≡ Some s → (b ≡ true) × (x ≡ s)
-if_some true x s is = (refl, same_Some x s is)
-if_some false x s is = none_is s is
-
 staged_if : (i : ℕ) (g : Stage) (b : Bool) (s : ParserState) → (if b then Some (stage_state i g) else None) ≡ Some s → Staged s
-staged_if i g b s is = record { items = i; stage = g; is = sym (if_some b (stage_state i g) s is).1 }
+staged_if i g b s is = record { items = i; stage = g; is = sym (cond_some b (stage_state i g) s is).1 }
 
 item_staged : (t : Token) (i : ℕ) (s : ParserState) → item_step (stage_state i between_items) t ≡ Some s → Staged s
 item_staged (lower text) i s h = staged_if i after_cnf (bytes_eq text (codes "cnf")) s h

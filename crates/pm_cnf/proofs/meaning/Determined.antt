@@ -132,8 +132,8 @@ module _ (symbols : List logic.Symbol) (variables : List (List ℕ)) (symbols_on
 -- ---- clauses
 
 -- the variables of an item, by its literals
-abbrev variables_of : List Literal → List (List ℕ)
-variables_of literals = with_texts [] (flat_map (λ literal. variables_among literal.args) (kept_among literals))
+abbrev literals_variables : List Literal → List (List ℕ)
+literals_variables literals = with_texts [] (flat_map (λ literal. variables_among literal.args) (kept_among literals))
 
 clause_parts : (c d : logic.Clause) → c.name ≡ d.name → c.role ≡ d.role → c.vars ≡ d.vars → c.literals ≡ d.literals → c ≡ d
 clause_parts c d name role vars literals =
@@ -145,9 +145,9 @@ clause_same symbols once a b c d same at there =
     clause_parts c d
     (at.name ∙ ap label_of same.name ∙ sym there.name)
     (at.role ∙ same.role ∙ sym there.role)
-    (at.vars ∙ ap (λ (ls : List Literal). length (variables_of ls)) same.literals ∙ sym there.vars)
+    (at.vars ∙ ap (λ (ls : List Literal). length (literals_variables ls)) same.literals ∙ sym there.vars)
     (literals_same symbols (item_variables a) once (with_texts_once [] (flat_map (λ literal. variables_among literal.args) (kept_literals a)) once_nil) (kept_literals a) c.literals d.literals at.literals
-    (subst (λ (ls : List Literal). Pairwise (IsLiteralOf symbols (variables_of ls)) (kept_among ls) d.literals) (sym same.literals) there.literals))
+    (subst (λ (ls : List Literal). Pairwise (IsLiteralOf symbols (literals_variables ls)) (kept_among ls) d.literals) (sym same.literals) there.literals))
 
 clauses_same : (symbols : List logic.Symbol) → HoldsOnce symbols → (xs ys : List Item) (cs ds : List logic.Clause) → Pairwise SameItem xs ys → Pairwise (IsClauseOf symbols) xs cs → Pairwise (IsClauseOf symbols) ys ds
     → cs ≡ ds
@@ -182,5 +182,5 @@ problem_same xs ys p q same at there =
 
 pub problem_is_determined : ProblemIsDetermined
 problem_is_determined limits bytes problem other a b =
-    let lexemes : b.lexemes ≡ a.lexemes = (same_place a.lexemes b.lexemes bytes [] [] a.leads b.leads refl).0 in
-    problem_same a.items b.items problem other (same_tokens a.items b.items a.are b.are (a.file ∙ ap tokens_in (sym lexemes) ∙ sym b.file)) a.means b.means
+    let lexemes : b.text.lexemes ≡ a.text.lexemes = (same_place a.text.lexemes b.text.lexemes bytes [] [] a.text.leads b.text.leads refl).0 in
+    problem_same a.items b.items problem other (same_tokens a.items b.items a.text.are b.text.are (a.text.file ∙ ap tokens_in (sym lexemes) ∙ sym b.text.file)) a.means b.means

@@ -5,7 +5,7 @@ use Rattle.std.specs.List.{flat_map}
 use Rattle.pm_cnf.specs.Grammar as grammar
 use Rattle.pm_cnf.specs.Grammar.{Word, Term, application, Arguments, no_arguments, more_arguments, Atom, truth, falsity, Literal, Item}
 use Rattle.pm_cnf.specs.Meaning.{literals_of, argument_count, Pairwise}
-use Rattle.pm_cnf.specs.Inside.Draft.{Node, constant, term_nodes, arguments_nodes, atom_nodes, literal_nodes, Written, written}
+use Rattle.pm_cnf.specs.Inside.Draft.{Node, constant_node, term_nodes, arguments_nodes, atom_nodes, literal_nodes, Written, written}
 
 count_is : (m n : ℕ) → suc m ≡ suc n → m ≡ n
 count_is m n is = cc
@@ -46,11 +46,11 @@ atom_is p q truth (grammar.predicate w us) ms ns is = absurd cc
 atom_is p q falsity (grammar.predicate w us) ms ns is = absurd cc
 atom_is p q truth falsity ms ns is = absurd (different is)
   where
-    different : constant p true ∷ ms ≡ constant q false ∷ ns → ⊥
+    different : constant_node p true ∷ ms ≡ constant_node q false ∷ ns → ⊥
     different e = let d : true ≡ false = cc in cc
 atom_is p q falsity truth ms ns is = absurd (different is)
   where
-    different : constant p false ∷ ms ≡ constant q true ∷ ns → ⊥
+    different : constant_node p false ∷ ms ≡ constant_node q true ∷ ns → ⊥
     different e = let d : true ≡ false = cc in cc
 
 literal_is : (a b : Literal) (ms ns : List Node) → literal_nodes a ++ ms ≡ literal_nodes b ++ ns → (a ≡ b) × (ms ≡ ns)

@@ -282,8 +282,8 @@ few_fit limits known e s distinct h (x, is, new, most) = absurd cc
 few_fit limits known e s unequal h (x, is, new, most) = absurd cc
 few_fit limits known e s (mark m) h (x, is, new, most) = absurd cc
 
-literal_same : (m n : ℕ) → a_literal m ≡ a_literal n → m ≡ n
-literal_same m n e = cc
+literal_number_same : (m n : ℕ) → a_literal m ≡ a_literal n → m ≡ n
+literal_number_same m n e = cc
 
 argument_same : (m n d nesting : ℕ) → an_argument m d ≡ an_argument n nesting → (m ≡ n) × (d ≡ nesting)
 argument_same m n d nesting e = (cc, cc)
@@ -323,7 +323,7 @@ limit_first limits known e s t (a_literal n) many kind goes is has past = by_tes
     })
       where
         within : Fits limits known e s t TooManyLiterals → ⊥
-        within f = omega (arith, leb-false limits.literals n le, (subst (λ (k : ℕ). limits.literals ≤ k) (literal_same f.0 n (sym f.2 ∙ is)) f.3))
+        within f = omega (arith, leb-false limits.literals n le, (subst (λ (k : ℕ). limits.literals ≤ k) (literal_number_same f.0 n (sym f.2 ∙ is)) f.3))
     by_test false le false h e1 = absurd (none-some _ e1)
 limit_first limits known e s t (an_argument n nesting) many kind goes is has past =
     by_test many has (nat_le limits.arity n) refl (nat_lt limits.nesting nesting) refl past

@@ -11,7 +11,7 @@ use Rattle.pm_cnf.specs.Grammar as grammar
 use Rattle.pm_cnf.specs.Grammar.{Word, bare, between_quotes, Term, variable, application, Arguments, no_arguments, more_arguments, Atom, truth, falsity, Literal, Formula, in_parentheses, disjunction, Bracket, Annotations, no_more, plain, group, Name, integer, Item, nothing, an_atom, a_literal, Placed, only, term_places, arguments_places, others_places, atom_places, literal_places, others_joined, formula_places, opening, closing, annotations_places, name_token, ending_places, item_places, file_places, tokens_of, is_plain_token, AreAnnotations, MayEnd, IsName, IsItem, AreItems}
 use Rattle.pm_cnf.specs.Meaning.{argument_count, literals_of}
 use Rattle.pm_cnf.specs.Inside.Machine.{ParserState, step}
-use Rattle.pm_cnf.specs.Inside.Draft.{Node, predicate, function, Written, term_nodes, arguments_nodes, atom_nodes, literal_nodes, written, Draft, with_arity, set_arity, draft_after}
+use Rattle.pm_cnf.specs.Inside.Draft.{Node, predicate_node, function_node, Written, term_nodes, arguments_nodes, atom_nodes, literal_nodes, written, Draft, with_arity, set_arity, draft_after}
 use Rattle.pm_cnf.proofs.grammar.Forward.{in_formula, in_item, in_annotations, after_arguments, plain_step, open_step, close_step, name_step_is}
 
 -- a draft of an item, with what was kept before
@@ -67,13 +67,13 @@ module _ (items : List Written) (name : Name) (role : List ℕ) (r : List Writte
     term_drafts (application (bare text) no_arguments) i a l n counts p ns ps rest term function_end = function_end
     term_drafts (application (between_quotes text) no_arguments) i a l n counts p ns ps rest term function_end = function_end
     term_drafts (application (bare text) (more_arguments t ts)) i a l n counts p ns ps rest term function_end =
-        list_drafts t ts i a l (suc n ∷ counts) p ns (function (bare text) 0) ps rest
-        (λ place. term_drafts t i a l 0 (suc n ∷ counts) p (ns ++ function (bare text) 0 ∷ []) (place ∷ ps) (others_places (suc (length (suc n ∷ counts))) 1 ts ++ rest))
-        (others_drafts ts i a l 1 (suc (argument_count ts)) (omega arith) (suc n ∷ counts) p ns (term_nodes t) (function (bare text) 0) ps rest term)
+        list_drafts t ts i a l (suc n ∷ counts) p ns (function_node (bare text) 0) ps rest
+        (λ place. term_drafts t i a l 0 (suc n ∷ counts) p (ns ++ function_node (bare text) 0 ∷ []) (place ∷ ps) (others_places (suc (length (suc n ∷ counts))) 1 ts ++ rest))
+        (others_drafts ts i a l 1 (suc (argument_count ts)) (omega arith) (suc n ∷ counts) p ns (term_nodes t) (function_node (bare text) 0) ps rest term)
     term_drafts (application (between_quotes text) (more_arguments t ts)) i a l n counts p ns ps rest term function_end =
-        list_drafts t ts i a l (suc n ∷ counts) p ns (function (between_quotes text) 0) ps rest
-        (λ place. term_drafts t i a l 0 (suc n ∷ counts) p (ns ++ function (between_quotes text) 0 ∷ []) (place ∷ ps) (others_places (suc (length (suc n ∷ counts))) 1 ts ++ rest))
-        (others_drafts ts i a l 1 (suc (argument_count ts)) (omega arith) (suc n ∷ counts) p ns (term_nodes t) (function (between_quotes text) 0) ps rest term)
+        list_drafts t ts i a l (suc n ∷ counts) p ns (function_node (between_quotes text) 0) ps rest
+        (λ place. term_drafts t i a l 0 (suc n ∷ counts) p (ns ++ function_node (between_quotes text) 0 ∷ []) (place ∷ ps) (others_places (suc (length (suc n ∷ counts))) 1 ts ++ rest))
+        (others_drafts ts i a l 1 (suc (argument_count ts)) (omega arith) (suc n ∷ counts) p ns (term_nodes t) (function_node (between_quotes text) 0) ps rest term)
 
     others_drafts : (ts : Arguments) (i a l n all : ℕ) → all ≡ n + argument_count ts → (counts : List ℕ) (p : Bool) (before done : List Node) (head : Node) (ps : List ℕ) (rest : List Placed)
         → Drafts (Some (after_arguments i a l counts)) (holding items name role p (before ++ with_arity all head ∷ (done ++ arguments_nodes ts)) ps) rest r
@@ -106,13 +106,13 @@ module _ (items : List Written) (name : Name) (role : List ℕ) (r : List Writte
     literal_end : (p : Bool) → Drafts (Some (in_formula expect.LiteralEnd i a l [])) (holding items name role p ns []) rest r
 
   arguments_drafts : (args : Arguments) (w : Word) (i a l : ℕ) (p : Bool) (ns : List Node) (rest : List Placed)
-      → DraftsLiteral i a l (ns ++ predicate p w (argument_count args) ∷ arguments_nodes args) rest
-      → Drafts (Some (in_formula expect.PredicateEnd i a l [])) (holding items name role p (ns ++ predicate p w 0 ∷ []) []) (arguments_places 1 args ++ rest) r
+      → DraftsLiteral i a l (ns ++ predicate_node p w (argument_count args) ∷ arguments_nodes args) rest
+      → Drafts (Some (in_formula expect.PredicateEnd i a l [])) (holding items name role p (ns ++ predicate_node p w 0 ∷ []) []) (arguments_places 1 args ++ rest) r
   arguments_drafts no_arguments w i a l p ns rest h = h.predicate_end p
   arguments_drafts (more_arguments t ts) w i a l p ns rest h =
-      list_drafts t ts i a l [] p ns (predicate p w 0) [] rest
-      (λ place. term_drafts t i a l 0 [] p (ns ++ predicate p w 0 ∷ []) (place ∷ []) (others_places 1 1 ts ++ rest))
-      (others_drafts ts i a l 1 (suc (argument_count ts)) (omega arith) [] p ns (term_nodes t) (predicate p w 0) [] rest (h.literal_end p))
+      list_drafts t ts i a l [] p ns (predicate_node p w 0) [] rest
+      (λ place. term_drafts t i a l 0 [] p (ns ++ predicate_node p w 0 ∷ []) (place ∷ []) (others_places 1 1 ts ++ rest))
+      (others_drafts ts i a l 1 (suc (argument_count ts)) (omega arith) [] p ns (term_nodes t) (predicate_node p w 0) [] rest (h.literal_end p))
 
   atom_drafts : (atom : Atom) (i a l : ℕ) (p : Bool) (ns : List Node) (rest : List Placed) → DraftsLiteral i a l (ns ++ atom_nodes p atom) rest
       → Drafts (Some (in_formula expect.Atom i a l [])) (holding items name role p ns []) (atom_places an_atom atom ++ rest) r

@@ -150,12 +150,14 @@ progress_end limits bytes parser place p at whole =
     let c : IsClean limits bytes [] (state_of parser) = subst (λ (r : List ℕ). IsClean limits bytes r (state_of parser)) done (clean_of limits bytes parser place p) in
     let w : AreWhole (tokens_in p.lexemes) = (whole_state (tokens_in p.lexemes) (state_of parser) p.reached).1 whole in
     record {
-      sound = no_offence limits bytes (state_of parser) c whole;
-      lexemes = p.lexemes;
-      leads = subst (λ (r : List ℕ). Lexes p.lexemes bytes r) done p.leads;
       items = w.items;
-      are = w.are;
-      file = w.file;
+      text = record {
+        sound = no_offence limits bytes (state_of parser) c whole;
+        lexemes = p.lexemes;
+        leads = subst (λ (r : List ℕ). Lexes p.lexemes bytes r) done p.leads;
+        are = w.are;
+        file = w.file;
+      };
       keeps = ap (λ (d : Draft). d.items) (sym p.kept)
           ∙ ap (λ ts. (draft_after (Some start) nothing_drafted ts).items) (sym w.file)
           ∙ file_drafts w.items w.are 0 [] (grammar.word (grammar.bare [])) [] true;
@@ -189,17 +191,9 @@ rest_is bytes place = sym (take_all (length bytes - place) (drop place bytes) (o
 -- a file that was read has the problem of its items
 pub read_problem : (limits : Limits) (bytes : List ℕ) (kept : List Written) (problem : Problem) → IsRead limits bytes kept
     → ((file : List grammar.Item) → kept ≡ map written file → IsProblemOf file problem) → IsProblemIn limits bytes problem
-read_problem limits bytes kept problem r of = record {
-  sound = r.sound;
-  lexemes = r.lexemes;
-  leads = r.leads;
-  items = r.items;
-  are = r.are;
-  file = r.file;
-  means = of r.items r.keeps;
-}
+read_problem limits bytes kept problem r of = record { items = r.items; text = r.text; means = of r.items r.keeps }
 
 -- and its items are readable
 pub read_readable : (limits : Limits) (bytes : List ℕ) (kept : List Written) → AreUsual limits → length bytes < 2 ^ 32 - 1 → IsRead limits bytes kept → AreReadable kept
 read_readable limits bytes kept usual short r =
-    subst AreReadable (sym r.keeps) (file_readable limits bytes r.lexemes r.items r.leads r.are r.file r.sound usual.clauses usual.literals short)
+    subst AreReadable (sym r.keeps) (file_readable limits bytes r.text.lexemes r.items r.text.leads r.text.are r.text.file r.text.sound usual.clauses usual.literals short)

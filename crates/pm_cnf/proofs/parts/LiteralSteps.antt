@@ -61,10 +61,10 @@ step_more start now new head after literals added given r rows step =
 
 -- the nodes of the next literal's arguments are of arguments
 pub next_arguments : (start now : Tables) (all after : List Node) (literals : List Literal) (positive : Bool) (w : Word) (n : ℕ) → ((given : List grammar.Literal) × (all ≡ flat_map literal_nodes given))
-    → LiteralsSoFar start all (draft.predicate positive w n ∷ after) now literals → (args : Arguments) × (take (prefix_len is_argument after) after ≡ arguments_nodes args)
+    → LiteralsSoFar start all (draft.predicate_node positive w n ∷ after) now literals → (args : Arguments) × (take (prefix_len is_argument after) after ≡ arguments_nodes args)
 next_arguments start now all after literals positive w n whole so_far =
     let r = so_far.read whole.0 whole.1 in
-    let cut = cut_literal (draft.predicate positive w n) after r.todo r.rest-is in
+    let cut = cut_literal (draft.predicate_node positive w n) after r.todo r.rest-is in
     let k = kept_literal cut.literal positive w n (take (prefix_len is_argument after) after) cut.first in
     (k.args, k.nodes-are)
 
@@ -86,23 +86,23 @@ pub literals_kept : (start now mid new : Tables) (all after : List Node) (litera
     → ((args : Arguments) → take (prefix_len is_argument after) after ≡ arguments_nodes args → AreTreesOf new.symbols new.texts args (as_terms (map (tree_at new.terms) literal.args.items)))
     → All (λ row. row < length new.terms) literal.args.items
     → ((given : List grammar.Literal) × (all ≡ flat_map literal_nodes given))
-    → LiteralsSoFar start all (draft.predicate positive w n ∷ after) now literals → LiteralsSoFar start all (drop (prefix_len is_argument after) after) new more
+    → LiteralsSoFar start all (draft.predicate_node positive w n ∷ after) now literals → LiteralsSoFar start all (drop (prefix_len is_argument after) after) new more
 literals_kept start now mid new all after literals more positive w n f literal same numbers sign symbol pushed grows terms rows whole so_far =
     let nodes = take (prefix_len is_argument after) after in
     let symbol_is : logic.Symbol = record { text = word_text w; arity = n; kind = Predicate } in
-    let known = texts_so_far start now all (draft.predicate positive w n ∷ after) literals whole so_far in
-    let first : Grows now (draft.predicate positive w n ∷ []) [] mid =
-    subst (Grows now (draft.predicate positive w n ∷ []) []) (sym same) (record { symbols = Gathers-one now.symbols mid.symbols symbol_is numbers.grows; terms = refl; texts = refl; known = known }) in
-    let both : Grows now (draft.predicate positive w n ∷ nodes) (terms_among (map (tree_at new.terms) literal.args.items)) new =
-    Grows-append now mid new (draft.predicate positive w n ∷ []) nodes [] (terms_among (map (tree_at new.terms) literal.args.items)) first grows in
+    let known = texts_so_far start now all (draft.predicate_node positive w n ∷ after) literals whole so_far in
+    let first : Grows now (draft.predicate_node positive w n ∷ []) [] mid =
+    subst (Grows now (draft.predicate_node positive w n ∷ []) []) (sym same) (record { symbols = Gathers-one now.symbols mid.symbols symbol_is numbers.grows; terms = refl; texts = refl; known = known }) in
+    let both : Grows now (draft.predicate_node positive w n ∷ nodes) (terms_among (map (tree_at new.terms) literal.args.items)) new =
+    Grows-append now mid new (draft.predicate_node positive w n ∷ []) nodes [] (terms_among (map (tree_at new.terms) literal.args.items)) first grows in
     let stands : slice_get new.symbols f ≡ Some symbol_is =
     slice_get-extends mid.symbols new.symbols (symbols-extend mid new nodes (terms_among (map (tree_at new.terms) literal.args.items)) grows) f symbol_is numbers.stands in
-    let extends = terms-extend now new (draft.predicate positive w n ∷ nodes) (terms_among (map (tree_at new.terms) literal.args.items)) both in
+    let extends = terms-extend now new (draft.predicate_node positive w n ∷ nodes) (terms_among (map (tree_at new.terms) literal.args.items)) both in
     record {
-      read = λ given is. subst (λ ls. ReadSoFar start (drop (prefix_len is_argument after) after) new ls given) (sym pushed) (step_more start now new (draft.predicate positive w n) after literals (literal ∷ []) given (so_far.read given is) so_far.rows
+      read = λ given is. subst (λ ls. ReadSoFar start (drop (prefix_len is_argument after) after) new ls given) (sym pushed) (step_more start now new (draft.predicate_node positive w n) after literals (literal ∷ []) given (so_far.read given is) so_far.rows
           (λ l first. let k = kept_literal l positive w n nodes first in (
             subst (λ ns. Grows now ns (flat_map literal_terms (map (literal_of new.terms) (literal ∷ []))) new) first
-                (subst (λ ts. Grows now (draft.predicate positive w n ∷ nodes) ts new) (sym (append-nil (terms_among (map (tree_at new.terms) literal.args.items)))) both),
+                (subst (λ ts. Grows now (draft.predicate_node positive w n ∷ nodes) ts new) (sym (append-nil (terms_among (map (tree_at new.terms) literal.args.items)))) both),
             subst (λ ks. Pairwise (IsLiteralOf new.symbols new.texts) ks (map (literal_of new.terms) (literal ∷ []))) (sym (k.kept []))
                 (record { sign = sign; symbol = ap (slice_get new.symbols) symbol ∙ stands ∙ ap (λ m. Some (record { text = word_text w; arity = m; kind = Predicate })) k.count; terms = terms k.args k.nodes-are }, tt),
           )));
@@ -111,12 +111,12 @@ literals_kept start now mid new all after literals more positive w n f literal s
 
 -- a constant is left out
 pub literals_constant : (start now : Tables) (all after : List Node) (literals : List Literal) (positive value : Bool)
-    → LiteralsSoFar start all (draft.constant positive value ∷ after) now literals → LiteralsSoFar start all (drop (prefix_len is_argument after) after) now literals
+    → LiteralsSoFar start all (draft.constant_node positive value ∷ after) now literals → LiteralsSoFar start all (drop (prefix_len is_argument after) after) now literals
 literals_constant start now all after literals positive value so_far = record {
   read = λ given is. let r = so_far.read given is in
-      subst (λ ls. ReadSoFar start (drop (prefix_len is_argument after) after) now ls given) (append-nil literals) (step_more start now now (draft.constant positive value) after literals [] given r so_far.rows
+      subst (λ ls. ReadSoFar start (drop (prefix_len is_argument after) after) now ls given) (append-nil literals) (step_more start now now (draft.constant_node positive value) after literals [] given r so_far.rows
       (λ l first. let k = constant_literal l positive value (take (prefix_len is_argument after) after) first in (
-        subst (λ ns. Grows now ns [] now) (ap (λ ns. draft.constant positive value ∷ ns) (sym k.0) ∙ first) (record { symbols = refl; terms = refl; texts = refl; known = r.numbered.grows.known }),
+        subst (λ ns. Grows now ns [] now) (ap (λ ns. draft.constant_node positive value ∷ ns) (sym k.0) ∙ first) (record { symbols = refl; terms = refl; texts = refl; known = r.numbered.grows.known }),
         subst (λ ks. Pairwise (IsLiteralOf now.symbols now.texts) ks []) (sym (k.1 [])) tt,
       )));
   rows = so_far.rows;

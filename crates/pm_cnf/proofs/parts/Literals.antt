@@ -28,8 +28,8 @@ use Rattle.pm_cnf.proofs.Lists.{head_is, tail_is}
 
 mutual
   term_are : (t : Term) → All IsArgument (term_nodes t)
-  term_are (variable text) = All-cons IsArgument (draft.variable text) [] refl (All-nil IsArgument)
-  term_are (application w args) = All-cons IsArgument (draft.function w (argument_count args)) (arguments_nodes args) refl (arguments_are args)
+  term_are (variable text) = All-cons IsArgument (draft.variable_node text) [] refl (All-nil IsArgument)
+  term_are (application w args) = All-cons IsArgument (draft.function_node w (argument_count args)) (arguments_nodes args) refl (arguments_are args)
 
   pub arguments_are : (args : Arguments) → All IsArgument (arguments_nodes args)
   arguments_are no_arguments = All-nil IsArgument
@@ -133,14 +133,14 @@ cut_after after xs rest is all none =
 cut_atom : (head : Node) (after : List Node) (positive : Bool) (atom : Atom) (rest : List Node) → prefix_len is_argument rest ≡ 0 → head ∷ after ≡ atom_nodes positive atom ++ rest
     → (head ∷ take (prefix_len is_argument after) after ≡ atom_nodes positive atom) × (drop (prefix_len is_argument after) after ≡ rest)
 cut_atom head after positive (grammar.predicate w args) rest none is =
-    let cut = cut_after after (arguments_nodes args) rest (tail_is head (draft.predicate positive w (argument_count args)) after (arguments_nodes args ++ rest) is) (arguments_are args) none in
-    (ap₂ (λ x xs. x ∷ xs) (head_is head (draft.predicate positive w (argument_count args)) after (arguments_nodes args ++ rest) is) cut.0, cut.1)
+    let cut = cut_after after (arguments_nodes args) rest (tail_is head (draft.predicate_node positive w (argument_count args)) after (arguments_nodes args ++ rest) is) (arguments_are args) none in
+    (ap₂ (λ x xs. x ∷ xs) (head_is head (draft.predicate_node positive w (argument_count args)) after (arguments_nodes args ++ rest) is) cut.0, cut.1)
 cut_atom head after positive truth rest none is =
-    let cut = cut_after after [] rest (tail_is head (draft.constant positive true) after rest is) (All-nil IsArgument) none in
-    (ap₂ (λ x xs. x ∷ xs) (head_is head (draft.constant positive true) after rest is) cut.0, cut.1)
+    let cut = cut_after after [] rest (tail_is head (draft.constant_node positive true) after rest is) (All-nil IsArgument) none in
+    (ap₂ (λ x xs. x ∷ xs) (head_is head (draft.constant_node positive true) after rest is) cut.0, cut.1)
 cut_atom head after positive falsity rest none is =
-    let cut = cut_after after [] rest (tail_is head (draft.constant positive false) after rest is) (All-nil IsArgument) none in
-    (ap₂ (λ x xs. x ∷ xs) (head_is head (draft.constant positive false) after rest is) cut.0, cut.1)
+    let cut = cut_after after [] rest (tail_is head (draft.constant_node positive false) after rest is) (All-nil IsArgument) none in
+    (ap₂ (λ x xs. x ∷ xs) (head_is head (draft.constant_node positive false) after rest is) cut.0, cut.1)
 
 pub cut_literal : (head : Node) (after : List Node) (todo : List grammar.Literal) → head ∷ after ≡ flat_map literal_nodes todo → CutsLiteral head after todo
 cut_literal head after [] is = absurd cc
@@ -155,10 +155,10 @@ pub record IsKeptLiteral (literal : grammar.Literal) (positive : Bool) (w : Word
   pub nodes-are : nodes ≡ arguments_nodes args
   pub kept : (others : List Kept) → kept_from literal.positive literal.atom others ≡ record { positive = positive; predicate = w; args = args } ∷ others
 
-pub kept_literal : (literal : grammar.Literal) (positive : Bool) (w : Word) (n : ℕ) (nodes : List Node) → draft.predicate positive w n ∷ nodes ≡ literal_nodes literal → IsKeptLiteral literal positive w n nodes
+pub kept_literal : (literal : grammar.Literal) (positive : Bool) (w : Word) (n : ℕ) (nodes : List Node) → draft.predicate_node positive w n ∷ nodes ≡ literal_nodes literal → IsKeptLiteral literal positive w n nodes
 kept_literal literal positive w n nodes is = by literal.positive literal.atom is
   where
-    by : (sign : Bool) (atom : Atom) → draft.predicate positive w n ∷ nodes ≡ atom_nodes sign atom → IsKeptLiteral (record { positive = sign; atom = atom }) positive w n nodes
+    by : (sign : Bool) (atom : Atom) → draft.predicate_node positive w n ∷ nodes ≡ atom_nodes sign atom → IsKeptLiteral (record { positive = sign; atom = atom }) positive w n nodes
     by sign (grammar.predicate w' args) is =
         let signs : sign ≡ positive = cc in
         let words : w' ≡ w = cc in
@@ -166,10 +166,10 @@ kept_literal literal positive w n nodes is = by literal.positive literal.atom is
     by sign truth is = cc
     by sign falsity is = cc
 
-pub constant_literal : (literal : grammar.Literal) (positive value : Bool) (nodes : List Node) → draft.constant positive value ∷ nodes ≡ literal_nodes literal → (nodes ≡ []) × ((others : List Kept) → kept_from literal.positive literal.atom others ≡ others)
+pub constant_literal : (literal : grammar.Literal) (positive value : Bool) (nodes : List Node) → draft.constant_node positive value ∷ nodes ≡ literal_nodes literal → (nodes ≡ []) × ((others : List Kept) → kept_from literal.positive literal.atom others ≡ others)
 constant_literal literal positive value nodes is = by literal.positive literal.atom is
   where
-    by : (sign : Bool) (atom : Atom) → draft.constant positive value ∷ nodes ≡ atom_nodes sign atom → (nodes ≡ []) × ((others : List Kept) → kept_from sign atom others ≡ others)
+    by : (sign : Bool) (atom : Atom) → draft.constant_node positive value ∷ nodes ≡ atom_nodes sign atom → (nodes ≡ []) × ((others : List Kept) → kept_from sign atom others ≡ others)
     by sign (grammar.predicate w args) is = cc
     by sign truth is = (cc, λ others. refl)
     by sign falsity is = (cc, λ others. refl)
@@ -178,9 +178,9 @@ pub no_argument_first : (literal : grammar.Literal) (node : Node) (nodes : List 
 no_argument_first literal node nodes argument is = by literal.positive literal.atom is
   where
     by : (sign : Bool) (atom : Atom) → node ∷ nodes ≡ atom_nodes sign atom → ⊥
-    by sign (grammar.predicate w args) is = let same : is_argument node ≡ false = ap is_argument (head_is node (draft.predicate sign w (argument_count args)) nodes (arguments_nodes args) is) in cc
-    by sign truth is = let same : is_argument node ≡ false = ap is_argument (head_is node (draft.constant sign true) nodes [] is) in cc
-    by sign falsity is = let same : is_argument node ≡ false = ap is_argument (head_is node (draft.constant sign false) nodes [] is) in cc
+    by sign (grammar.predicate w args) is = let same : is_argument node ≡ false = ap is_argument (head_is node (draft.predicate_node sign w (argument_count args)) nodes (arguments_nodes args) is) in cc
+    by sign truth is = let same : is_argument node ≡ false = ap is_argument (head_is node (draft.constant_node sign true) nodes [] is) in cc
+    by sign falsity is = let same : is_argument node ≡ false = ap is_argument (head_is node (draft.constant_node sign false) nodes [] is) in cc
 
 kept_from-append : (positive : Bool) (atom : Atom) (xs ys : List Kept) → kept_from positive atom (xs ++ ys) ≡ kept_from positive atom xs ++ ys
 kept_from-append positive (grammar.predicate w args) xs ys = refl

@@ -49,8 +49,8 @@ read_at (x ∷ items) (f ∷ file) (suc i) one are lt is names printable =
 pub item_read : (items : List code.Item) (i : ℕ) (one : code.Item) → AreReadable (map item_of items) → i < length items → one ≡ get_or items i one → ItemRead one
 item_read items i one readable lt is = read_at items readable.items i one readable.are lt is readable.names readable.printable
 
-pub name_printable : (one : code.Item) → ItemRead one → HasPrintableName (name_of one.name)
-name_printable one r = subst HasPrintableName (sym (ap (λ (w : Written). w.name) r.is)) r.named
+pub item_name_printable : (one : code.Item) → ItemRead one → HasPrintableName (name_of one.name)
+item_name_printable one r = subst HasPrintableName (sym (ap (λ (w : Written). w.name) r.is)) r.named
 
 pub nodes_printable : (one : code.Item) → ItemRead one → ArePrintable (map node_of one.nodes.items)
 nodes_printable one r =

@@ -18,7 +18,7 @@ use Rattle.pm_logic.proofs.ListLemmas.{Contains-from, slice_get-push}
 use Rattle.pm_cnf.specs.declared.number.Part.{Part}
 use Rattle.pm_cnf.specs.declared.number.Part.TheVariants as parts
 use Rattle.pm_cnf.specs.Grammar.{Word, word_text}
-use Rattle.pm_cnf.specs.Inside.Draft.{Node, predicate, constant, function, variable}
+use Rattle.pm_cnf.specs.Inside.Draft.{Node, predicate_node, constant_node, function_node, variable_node}
 use Rattle.pm_cnf.specs.Offences.{with_text}
 use Rattle.pm_cnf.specs.Meaning.{Gathers, Pairwise, with_texts}
 use Rattle.pm_cnf.specs.Inside.Parts.{IsPartOf, part_leaf, node_symbol, node_text, Tables, Grows, ArePrintable}
@@ -49,10 +49,10 @@ pub texts-extend : (a b : Tables) (nodes : List Node) (terms : List Term) → Gr
 texts-extend a b nodes terms h = subst (Extends a.texts) (sym h.texts) (with_texts-extends a.texts (flat_map node_text nodes))
 
 symbol_one : (node : Node) → length (node_symbol node) ≤ 1
-symbol_one (predicate positive w arity) = omega arith
-symbol_one (constant positive value) = omega arith
-symbol_one (function w arity) = omega arith
-symbol_one (variable text) = omega arith
+symbol_one (predicate_node positive w arity) = omega arith
+symbol_one (constant_node positive value) = omega arith
+symbol_one (function_node w arity) = omega arith
+symbol_one (variable_node text) = omega arith
 
 symbols_few : (nodes : List Node) → length (flat_map node_symbol nodes) ≤ length nodes
 symbols_few [] = omega arith
@@ -62,10 +62,10 @@ pub symbols-count : (a b : Tables) (nodes : List Node) (terms : List Term) → G
 symbols-count a b nodes terms h = omega (arith, Gathers-length (flat_map node_symbol nodes) a.symbols b.symbols h.symbols, symbols_few nodes)
 
 text_one : (node : Node) → length (node_text node) ≤ 1
-text_one (predicate positive w arity) = omega arith
-text_one (constant positive value) = omega arith
-text_one (function w arity) = omega arith
-text_one (variable text) = omega arith
+text_one (predicate_node positive w arity) = omega arith
+text_one (constant_node positive value) = omega arith
+text_one (function_node w arity) = omega arith
+text_one (variable_node text) = omega arith
 
 pub texts_few : (nodes : List Node) → length (flat_map node_text nodes) ≤ length nodes
 texts_few [] = omega arith
@@ -100,12 +100,12 @@ texts_known texts new text n count is stands lt le = rw is (by (list_any (bytes_
     by false is stands = at_end is stands (cases_lt n (length texts))
 
 part-extends : (symbols more : List Symbol) (texts others : List (List ℕ)) → Extends symbols more → Extends texts others → (node : Node) (part : Part) → IsPartOf symbols texts node part → IsPartOf more others node part
-part-extends symbols more texts others ss ts (variable text) (parts.Variable n) h = slice_get-extends texts others ts n text h
-part-extends symbols more texts others ss ts (function w arity) (parts.Function f k) h = (slice_get-extends symbols more ss f (record { text = word_text w; arity = arity; kind = Function }) h.0, h.1)
-part-extends symbols more texts others ss ts (variable text) (parts.Function f k) h = absurd h
-part-extends symbols more texts others ss ts (function w arity) (parts.Variable n) h = absurd h
-part-extends symbols more texts others ss ts (predicate positive w arity) part h = absurd h
-part-extends symbols more texts others ss ts (constant positive value) part h = absurd h
+part-extends symbols more texts others ss ts (variable_node text) (parts.Variable n) h = slice_get-extends texts others ts n text h
+part-extends symbols more texts others ss ts (function_node w arity) (parts.Function f k) h = (slice_get-extends symbols more ss f (record { text = word_text w; arity = arity; kind = Function }) h.0, h.1)
+part-extends symbols more texts others ss ts (variable_node text) (parts.Function f k) h = absurd h
+part-extends symbols more texts others ss ts (function_node w arity) (parts.Variable n) h = absurd h
+part-extends symbols more texts others ss ts (predicate_node positive w arity) part h = absurd h
+part-extends symbols more texts others ss ts (constant_node positive value) part h = absurd h
 
 -- nodes that became parts
 pub record AreParts (start : Tables) (nodes : List Node) (now : Tables) (ps : List Part) : Type 0 where
@@ -126,18 +126,18 @@ parts_more start now new nodes ps node part step is so_far =
     }
 
 pub parts_variable : (start : Tables) (nodes more : List Node) (symbols : List Symbol) (terms later : List Term) (texts others : List (List ℕ)) (ps now : List Part) (text : List ℕ) (n : ℕ)
-    → more ≡ nodes ++ variable text ∷ [] → now ≡ ps ++ parts.Variable n ∷ [] → others ≡ with_text texts text → slice_get others n ≡ Some text → Gathers terms (var n ∷ []) later → n < variable_count later
+    → more ≡ nodes ++ variable_node text ∷ [] → now ≡ ps ++ parts.Variable n ∷ [] → others ≡ with_text texts text → slice_get others n ≡ Some text → Gathers terms (var n ∷ []) later → n < variable_count later
     → AreParts start nodes (record { symbols = symbols; terms = terms; texts = texts }) ps → AreParts start more (record { symbols = symbols; terms = later; texts = others }) now
 parts_variable start nodes more symbols terms later texts others ps now text n more-is now-is texts-is stands gathers lt so_far =
     let le : length texts ≤ variable_count later = omega (arith, so_far.grows.known, variable_count-extends terms later (Gathers-extends (var n ∷ []) terms later gathers)) in
-    let step : Grows (record { symbols = symbols; terms = terms; texts = texts }) (variable text ∷ []) (var n ∷ []) (record { symbols = symbols; terms = later; texts = others }) =
+    let step : Grows (record { symbols = symbols; terms = terms; texts = texts }) (variable_node text ∷ []) (var n ∷ []) (record { symbols = symbols; terms = later; texts = others }) =
     record { symbols = refl; terms = gathers; texts = texts-is; known = texts_known texts others text n (variable_count later) texts-is stands lt le } in
-    rw (more-is, now-is) (parts_more start (record { symbols = symbols; terms = terms; texts = texts }) (record { symbols = symbols; terms = later; texts = others }) nodes ps (variable text) (parts.Variable n) step stands so_far)
+    rw (more-is, now-is) (parts_more start (record { symbols = symbols; terms = terms; texts = texts }) (record { symbols = symbols; terms = later; texts = others }) nodes ps (variable_node text) (parts.Variable n) step stands so_far)
 
 pub parts_function : (start : Tables) (nodes more : List Node) (symbols later : List Symbol) (terms : List Term) (texts : List (List ℕ)) (ps now : List Part) (w : Word) (f k : ℕ)
-    → more ≡ nodes ++ function w k ∷ [] → now ≡ ps ++ parts.Function f k ∷ [] → Numbers symbols later (record { text = word_text w; arity = k; kind = Function }) f
+    → more ≡ nodes ++ function_node w k ∷ [] → now ≡ ps ++ parts.Function f k ∷ [] → Numbers symbols later (record { text = word_text w; arity = k; kind = Function }) f
     → AreParts start nodes (record { symbols = symbols; terms = terms; texts = texts }) ps → AreParts start more (record { symbols = later; terms = terms; texts = texts }) now
 parts_function start nodes more symbols later terms texts ps now w f k more-is now-is numbers so_far =
-    let step : Grows (record { symbols = symbols; terms = terms; texts = texts }) (function w k ∷ []) [] (record { symbols = later; terms = terms; texts = texts }) =
+    let step : Grows (record { symbols = symbols; terms = terms; texts = texts }) (function_node w k ∷ []) [] (record { symbols = later; terms = terms; texts = texts }) =
     record { symbols = Gathers-one symbols later (record { text = word_text w; arity = k; kind = Function }) numbers.grows; terms = refl; texts = refl; known = so_far.grows.known } in
-    rw (more-is, now-is) (parts_more start (record { symbols = symbols; terms = terms; texts = texts }) (record { symbols = later; terms = terms; texts = texts }) nodes ps (function w k) (parts.Function f k) step (numbers.stands, refl) so_far)
+    rw (more-is, now-is) (parts_more start (record { symbols = symbols; terms = terms; texts = texts }) (record { symbols = later; terms = terms; texts = texts }) nodes ps (function_node w k) (parts.Function f k) step (numbers.stands, refl) so_far)

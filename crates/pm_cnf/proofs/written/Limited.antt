@@ -33,14 +33,14 @@ variables_parts known ps qs = ap (variables_from known) (tokens_append ps qs) �
 abbrev pub PassNoLimit : Limits → List Placed → Type 0
 PassNoLimit limits ps = AllByRecursion (λ p. past_limit limits p.1 false ≡ None) ps
 
-if_some : (b : Bool) (j k : CnfKind) → (if b then Some j else Some k) ≡ None → ⊥
-if_some true j k is = cc
-if_some false j k is = cc
+never_none : (b : Bool) (j k : CnfKind) → (if b then Some j else Some k) ≡ None → ⊥
+never_none true j k is = cc
+never_none false j k is = cc
 
 past_few : (limits : Limits) (b : Begins) (many : Bool) → past_limit limits b many ≡ None → past_limit limits b false ≡ None
 past_few limits b false past = past
 past_few limits (an_item n) true past = past
-past_few limits (a_literal n) true past = absurd (if_some (nat_le limits.literals n) _ _ past)
+past_few limits (a_literal n) true past = absurd (never_none (nat_le limits.literals n) _ _ past)
 past_few limits (an_argument n nesting) true past = absurd cc
 past_few limits nothing true past = absurd cc
 past_few limits an_atom true past = absurd cc
@@ -165,7 +165,7 @@ item_known item n known =
 many_none : (limits : Limits) (b : Begins) (many : Bool) → ((n : ℕ) → b ≢ an_item n) → past_limit limits b many ≡ None → many ≡ false
 many_none limits b false other past = refl
 many_none limits (an_item n) true other past = absurd (other n refl)
-many_none limits (a_literal n) true other past = absurd (if_some (nat_le limits.literals n) _ _ past)
+many_none limits (a_literal n) true other past = absurd (never_none (nat_le limits.literals n) _ _ past)
 many_none limits (an_argument n nesting) true other past = absurd cc
 many_none limits nothing true other past = absurd cc
 many_none limits an_atom true other past = absurd cc

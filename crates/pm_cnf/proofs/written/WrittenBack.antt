@@ -109,11 +109,11 @@ clauses_read symbols (item ∷ items) (c ∷ cs) n printable few named are =
 -- Written clauses are read back, where no item may have so many variables that their numbers are written alike.
 pub written_reads_back : (limits : Limits) (bytes : List ℕ) (problem : logic.Problem) → limits.variables ≤ 10 ^ 64 → IsProblemIn limits bytes problem → IsProblemIn limits (problem_text problem) problem
 written_reads_back limits bytes problem few p =
-    let within : Within limits [] (file_places 0 p.items) = sound_within limits bytes p.lexemes p.items p.leads p.are p.file p.sound in
-    let formed : HaveForm (file_places 0 p.items) = file_formed bytes p.lexemes p.items p.leads p.file in
+    let within : Within limits [] (file_places 0 p.items) = sound_within limits bytes p.text.lexemes p.items p.text.leads p.text.are p.text.file p.text.sound in
+    let formed : HaveForm (file_places 0 p.items) = file_formed bytes p.text.lexemes p.items p.text.leads p.text.file in
     let kept : List Item = kept_items p.items in
-    let limited : AllByRecursion (IsLimited limits) kept = all_kept_items (IsLimited limits) p.items (items_limited limits p.items 0 p.are within) in
-    let named : AllByRecursion IsNamed kept = all_kept_items IsNamed p.items (items_named p.items 0 p.are formed) in
+    let limited : AllByRecursion (IsLimited limits) kept = all_kept_items (IsLimited limits) p.items (items_limited limits p.items 0 p.text.are within) in
+    let named : AllByRecursion IsNamed kept = all_kept_items IsNamed p.items (items_named p.items 0 p.text.are formed) in
     let printable : HavePrintableTexts problem.symbols =
     gathered_printable [] (flat_map (λ item. flat_map literal_symbols (kept_literals item)) kept) problem.symbols tt
     (occurrences_printable kept (all_kept_items (λ item. All (λ s. IsPrintable s.text) (item_symbols item)) p.items (items_printable p.items 0 formed).1)) p.means.symbols in
@@ -122,12 +122,14 @@ written_reads_back limits bytes problem few p =
     let count : 0 + length kept ≤ limits.clauses = omega (arith, kept_few p.items, (file_within limits p.items within).0) in
     let are : AreItems (map rewritten kept) = rewritten_are kept named in
     record {
-      sound = within_sound limits (problem_text problem) reads.lexemes (map rewritten kept) reads.leads are (sym reads.are) reads.faultless
-          (file_goes limits kept 0 count (all_can_write limits kept few limited));
-      lexemes = reads.lexemes;
-      leads = reads.leads;
       items = map rewritten kept;
-      are = are;
-      file = sym reads.are;
+      text = record {
+        sound = within_sound limits (problem_text problem) reads.lexemes (map rewritten kept) reads.leads are (sym reads.are) reads.faultless
+            (file_goes limits kept 0 count (all_can_write limits kept few limited));
+        lexemes = reads.lexemes;
+        leads = reads.leads;
+        are = are;
+        file = sym reads.are;
+      };
       means = problem_rewritten p.items problem (all_few limits kept few limited) p.means;
     }

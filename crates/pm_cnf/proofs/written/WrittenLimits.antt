@@ -65,8 +65,8 @@ above : (m n : ℕ) → n < m → nat_le m n ≡ false
 above m n lt = grind (arith, nat_tests)
 
 -- a variable that leaves them few enough isn't one too many
-not_many : (limits : Limits) (known : List (List ℕ)) (text : List ℕ) → length (with_text known text) ≤ limits.variables → has_too_many_variables limits known (upper text) ≡ false
-not_many limits known text few = by (list_any (bytes_eq text) known) few
+few_with_text : (limits : Limits) (known : List (List ℕ)) (text : List ℕ) → length (with_text known text) ≤ limits.variables → has_too_many_variables limits known (upper text) ≡ false
+few_with_text limits known text few = by (list_any (bytes_eq text) known) few
   where
     above : (m n : ℕ) → n < m → nat_le m n ≡ false
     above m n lt = grind (arith, nat_tests)
@@ -102,7 +102,7 @@ module _ (limits : Limits) where
 
   mutual
     term_within : (t : Term) (nesting n : ℕ) (known : List (List ℕ)) → PassNoLimit limits (term_places nesting n t) → length (with_texts known (variables_in t)) ≤ limits.variables → Within limits known (term_places nesting n t)
-    term_within (variable text) nesting n known placed few = (place_within limits (an_argument n nesting) (has_too_many_variables limits known (upper text)) (not_many limits known text few) placed.0, tt)
+    term_within (variable text) nesting n known placed few = (place_within limits (an_argument n nesting) (has_too_many_variables limits known (upper text)) (few_with_text limits known text few) placed.0, tt)
     term_within (application w args) nesting n known placed few = word_within known w (an_argument n nesting) (arguments_places (suc nesting) args) placed.0 (arguments_within args (suc nesting) known placed.1 few)
 
     arguments_within : (ts : Arguments) (nesting : ℕ) (known : List (List ℕ)) → PassNoLimit limits (arguments_places nesting ts) → length (with_texts known (variables_among ts)) ≤ limits.variables

@@ -13,10 +13,10 @@ use Rattle.pm_cnf.specs.Inside.Machine.{ParserState, step, innermost}
 
 -- the head of a literal, or a symbol or variable of a term
 pub data Node : Type 0 where
-  predicate : Bool → Word → ℕ → Node
-  constant : Bool → Bool → Node
-  function : Word → ℕ → Node
-  variable : List ℕ → Node
+  predicate_node : Bool → Word → ℕ → Node
+  constant_node : Bool → Bool → Node
+  function_node : Word → ℕ → Node
+  variable_node : List ℕ → Node
 
 -- an item: its name, its role, and the nodes of its literals
 pub record Written : Type 0 where
@@ -27,8 +27,9 @@ pub record Written : Type 0 where
 -- the nodes of a term, a symbol before its arguments, from left to right
 abbrev mutual
   pub term_nodes : grammar.Term → List Node
-  term_nodes (grammar.variable text) = variable text ∷ []
-  term_nodes (grammar.application w args) = function w (argument_count args) ∷ arguments_nodes args
+  term_nodes (grammar.variable text) = variable_node text ∷ []
+  term_nodes (grammar.application w args) =
+      function_node w (argument_count args) ∷ arguments_nodes args
 
   pub arguments_nodes : grammar.Arguments → List Node
   arguments_nodes grammar.no_arguments = []
@@ -36,9 +37,9 @@ abbrev mutual
 
 abbrev pub atom_nodes : Bool → grammar.Atom → List Node
 atom_nodes positive (grammar.predicate w args) =
-    predicate positive w (argument_count args) ∷ arguments_nodes args
-atom_nodes positive grammar.truth = constant positive true ∷ []
-atom_nodes positive grammar.falsity = constant positive false ∷ []
+    predicate_node positive w (argument_count args) ∷ arguments_nodes args
+atom_nodes positive grammar.truth = constant_node positive true ∷ []
+atom_nodes positive grammar.falsity = constant_node positive false ∷ []
 
 abbrev pub literal_nodes : grammar.Literal → List Node
 literal_nodes literal = atom_nodes literal.positive literal.atom
@@ -63,8 +64,8 @@ pub record Draft : Type 0 where
 
 -- the node of a symbol that takes so many arguments
 abbrev pub with_arity : ℕ → Node → Node
-with_arity n (predicate positive w arity) = predicate positive w n
-with_arity n (function w arity) = function w n
+with_arity n (predicate_node positive w arity) = predicate_node positive w n
+with_arity n (function_node w arity) = function_node w n
 with_arity n node = node
 
 -- the node at a place is of a symbol that takes so many arguments
@@ -112,9 +113,9 @@ draft_role (lower text) d = ranked text d
 draft_role t d = d
 
 abbrev pub draft_atom : Token → Draft → Draft
-draft_atom (lower text) d = with_node (predicate d.positive (bare text) 0) d
-draft_atom (quoted text) d = with_node (predicate d.positive (between_quotes text) 0) d
-draft_atom (dollar text) d = with_node (constant d.positive (bytes_eq text (codes "$true"))) d
+draft_atom (lower text) d = with_node (predicate_node d.positive (bare text) 0) d
+draft_atom (quoted text) d = with_node (predicate_node d.positive (between_quotes text) 0) d
+draft_atom (dollar text) d = with_node (constant_node d.positive (bytes_eq text (codes "$true"))) d
 draft_atom t d = d
 
 abbrev pub draft_literal : Token → Draft → Draft
@@ -126,9 +127,9 @@ draft_formula (mark OpenParenthesis) d = d
 draft_formula t d = draft_literal t d
 
 abbrev pub draft_term : Token → Draft → Draft
-draft_term (lower text) d = with_node (function (bare text) 0) d
-draft_term (quoted text) d = with_node (function (between_quotes text) 0) d
-draft_term (upper text) d = with_node (variable text) d
+draft_term (lower text) d = with_node (function_node (bare text) 0) d
+draft_term (quoted text) d = with_node (function_node (between_quotes text) 0) d
+draft_term (upper text) d = with_node (variable_node text) d
 draft_term t d = d
 
 abbrev pub draft_symbol_end : ParserState → Token → Draft → Draft

@@ -34,10 +34,10 @@ name_of (names.Word w) = grammar.word (word_of w)
 name_of (names.Integer digits) = grammar.integer digits.now
 
 abbrev pub node_of : node.Node → draft.Node
-node_of (nodes.Predicate positive w arity) = draft.predicate positive (word_of w) arity
-node_of (nodes.Constant positive value) = draft.constant positive value
-node_of (nodes.Function w arity) = draft.function (word_of w) arity
-node_of (nodes.Variable text) = draft.variable text.now
+node_of (nodes.Predicate positive w arity) = draft.predicate_node positive (word_of w) arity
+node_of (nodes.Constant positive value) = draft.constant_node positive value
+node_of (nodes.Function w arity) = draft.function_node (word_of w) arity
+node_of (nodes.Variable text) = draft.variable_node text.now
 
 abbrev pub item_of : item.Item → draft.Written
 item_of i = record { name = name_of i.name; role = i.role.now; nodes = map node_of i.nodes.items }

@@ -9,30 +9,31 @@ use Rattle.pm_logic.specs.Table.{variable_count}
 use Rattle.pm_cnf.specs.declared.number.Part.{Part}
 use Rattle.pm_cnf.specs.declared.number.Part.TheVariants as parts
 use Rattle.pm_cnf.specs.Grammar.{word_text, Item}
-use Rattle.pm_cnf.specs.Inside.Draft.{Node, predicate, constant, function, variable}
+use Rattle.pm_cnf.specs.Inside.Draft.{Node, predicate_node, constant_node, function_node, variable_node}
 use Rattle.pm_cnf.specs.Meaning.{Gathers, Pairwise, with_texts, Kept, IsLiteralOf, IsClauseOf, leaves_among, applications_among, literal_terms, clause_terms, item_symbols}
 
 -- whether the node is of a term
 abbrev pub is_argument : Node → Bool
-is_argument (predicate positive w arity) = false
-is_argument (constant positive value) = false
-is_argument (function w arity) = true
-is_argument (variable text) = true
+is_argument (predicate_node positive w arity) = false
+is_argument (constant_node positive value) = false
+is_argument (function_node w arity) = true
+is_argument (variable_node text) = true
 
 abbrev pub IsArgument : Node → Type 0
 IsArgument node = is_argument node ≡ true
 
 -- the node's symbol, if it has one
 abbrev pub node_symbol : Node → List Symbol
-node_symbol (predicate positive w arity) =
+node_symbol (predicate_node positive w arity) =
     record { text = word_text w; arity = arity; kind = Predicate } ∷ []
-node_symbol (constant positive value) = []
-node_symbol (function w arity) = record { text = word_text w; arity = arity; kind = Function } ∷ []
-node_symbol (variable text) = []
+node_symbol (constant_node positive value) = []
+node_symbol (function_node w arity) =
+    record { text = word_text w; arity = arity; kind = Function } ∷ []
+node_symbol (variable_node text) = []
 
 -- the node's variable, if it is one
 abbrev pub node_text : Node → List (List ℕ)
-node_text (variable text) = text ∷ []
+node_text (variable_node text) = text ∷ []
 node_text node = []
 
 -- the variables have the numbers from 0 on, and these are their rows
@@ -43,8 +44,8 @@ pub record AreVariables (terms : List Term) (rows : List ℕ) : Type 0 where
 
 -- the node with the number of its symbol, or of its variable among the clause's
 abbrev pub IsPartOf : List Symbol → List (List ℕ) → Node → Part → Type 0
-IsPartOf symbols texts (variable text) (parts.Variable n) = slice_get texts n ≡ Some text
-IsPartOf symbols texts (function w arity) (parts.Function f k) =
+IsPartOf symbols texts (variable_node text) (parts.Variable n) = slice_get texts n ≡ Some text
+IsPartOf symbols texts (function_node w arity) (parts.Function f k) =
     (slice_get symbols f ≡ Some (record { text = word_text w; arity = arity; kind = Function }))
     × (k ≡ arity)
 IsPartOf symbols texts node part = ⊥
@@ -106,8 +107,8 @@ pub record IsNumbered (old new : List Symbol) (before after : List Term) (item :
 
 -- whether the node is $true or ~ $false
 abbrev pub node_holds : Node → Bool
-node_holds (constant positive true) = positive
-node_holds (constant positive false) = not positive
+node_holds (constant_node positive true) = positive
+node_holds (constant_node positive false) = not positive
 node_holds node = false
 
 abbrev pub texts_of : List (Bor (List ℕ)) → List (List ℕ)

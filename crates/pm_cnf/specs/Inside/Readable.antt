@@ -7,7 +7,7 @@ use Rattle.pm_cnf.specs.declared.limits.Limits.{Limits}
 use Rattle.pm_cnf.specs.Lexemes.{Lexeme, Lexes, tokens_in}
 use Rattle.pm_cnf.specs.Grammar.{word_text, Name, word, integer, Item, AreItems, file_places, tokens_of}
 use Rattle.pm_cnf.specs.Offences.{IsOffence}
-use Rattle.pm_cnf.specs.Meaning.{literals_of, item_symbols}
+use Rattle.pm_cnf.specs.Meaning.{literals_of, item_symbols, IsTextOf}
 use Rattle.pm_cnf.specs.Inside.Draft.{Written, written}
 
 abbrev pub HasPrintableName : Name → Type 0
@@ -25,12 +25,8 @@ pub record AreReadable (kept : List Written) : Type 0 where
   pub printable : All (λ item. All (λ s. IsPrintable s.text) (item_symbols item)) items
   pub short : length (flat_map (λ w. w.nodes) kept) < 2 ^ 32 - 1
 
--- The bytes have no offence, and this is kept of the items that they are the text of.
+-- This is kept of the items that the bytes are the text of.
 pub record IsRead (limits : Limits) (bytes : List ℕ) (kept : List Written) : Type 0 where
-  pub sound : (rest : List ℕ) (kind : CnfKind) → ¬ IsOffence limits bytes rest kind
-  pub lexemes : List Lexeme
-  pub leads : Lexes lexemes bytes []
   pub items : List Item
-  pub are : AreItems items
-  pub file : tokens_of (file_places 0 items) ≡ tokens_in lexemes
+  pub text : IsTextOf limits bytes items
   pub keeps : kept ≡ map written items
