@@ -3,7 +3,7 @@ use Rattle.std.proofs.Common.{◌≡◌, ℕ, suc, Bool, true, false, List, [], 
 use Rattle.std.specs.Prelude.{map}
 use Rattle.std.specs.List.{flat_map}
 use Rattle.pm_cnf.specs.Grammar as grammar
-use Rattle.pm_cnf.specs.Grammar.{Word, Term, application, Arguments, no_arguments, more_arguments, Atom, truth, falsity, Literal, Item}
+use Rattle.pm_cnf.specs.Grammar.{Term, application, Arguments, no_arguments, more_arguments, Atom, truth, falsity, Literal, Item}
 use Rattle.pm_cnf.specs.Meaning.{literals_of, argument_count, Pairwise}
 use Rattle.pm_cnf.specs.Inside.Draft.{Node, constant_node, term_nodes, arguments_nodes, atom_nodes, literal_nodes, Written, written}
 

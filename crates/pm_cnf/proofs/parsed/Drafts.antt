@@ -8,7 +8,7 @@ use Rattle.pm_cnf.specs.declared.token.Mark.TheVariants.{CloseParenthesis, Comma
 use Rattle.pm_cnf.specs.declared.parser.Expected.TheVariants as expect
 use Rattle.pm_cnf.specs.Lexemes.{lower, mark}
 use Rattle.pm_cnf.specs.Grammar as grammar
-use Rattle.pm_cnf.specs.Grammar.{Word, bare, between_quotes, Term, variable, application, Arguments, no_arguments, more_arguments, Atom, truth, falsity, Literal, Formula, in_parentheses, disjunction, Bracket, Annotations, no_more, plain, group, Name, integer, Item, nothing, an_atom, a_literal, Placed, only, term_places, arguments_places, others_places, atom_places, literal_places, others_joined, formula_places, opening, closing, annotations_places, name_token, ending_places, item_places, file_places, tokens_of, is_plain_token, AreAnnotations, MayEnd, IsName, IsItem, AreItems}
+use Rattle.pm_cnf.specs.Grammar.{Word, bare, between_quotes, Term, variable, application, Arguments, no_arguments, more_arguments, Atom, truth, falsity, Literal, Formula, in_parentheses, disjunction, Bracket, Annotations, no_more, plain, group, Name, integer, Item, nothing, an_atom, Placed, only, term_places, arguments_places, others_places, atom_places, literal_places, others_joined, formula_places, opening, closing, annotations_places, name_token, ending_places, item_places, file_places, tokens_of, AreAnnotations, MayEnd, IsName, IsItem, AreItems}
 use Rattle.pm_cnf.specs.Meaning.{argument_count, literals_of}
 use Rattle.pm_cnf.specs.Inside.Machine.{ParserState, step}
 use Rattle.pm_cnf.specs.Inside.Draft.{Node, predicate_node, function_node, Written, term_nodes, arguments_nodes, atom_nodes, literal_nodes, written, Draft, with_arity, set_arity, draft_after}

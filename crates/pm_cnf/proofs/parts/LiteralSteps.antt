@@ -8,7 +8,7 @@ use Rattle.std.proofs.lemmas.List.Elements.{All-nil, All-push}
 use Rattle.pm_logic.specs.declared.symbols.Kind.TheVariants.{Predicate}
 use Rattle.pm_logic.specs.declared.problem.Literal.{Literal}
 use Rattle.pm_logic.specs.Problem as logic
-use Rattle.pm_logic.specs.Problem.{Numbers, IsPrintable}
+use Rattle.pm_logic.specs.Problem.{Numbers}
 use Rattle.pm_logic.specs.Term.{as_terms, tree_at}
 use Rattle.pm_logic.specs.Table.{variable_count}
 use Rattle.pm_logic.specs.View.{literal_of, HasRows}

@@ -14,7 +14,7 @@ use Rattle.pm_logic.specs.Table.{variable_count}
 use Rattle.pm_logic.specs.View.{literal_of, HasRows}
 use Rattle.pm_cnf.specs.declared.number.Part.{Part}
 use Rattle.pm_cnf.specs.Grammar as grammar
-use Rattle.pm_cnf.specs.Grammar.{Word, word_text, Term, variable, application, Arguments, no_arguments, more_arguments, Atom, truth, falsity}
+use Rattle.pm_cnf.specs.Grammar.{Word, Term, variable, application, Arguments, no_arguments, more_arguments, Atom, truth, falsity}
 use Rattle.pm_cnf.specs.Inside.Draft as draft
 use Rattle.pm_cnf.specs.Inside.Draft.{Node, term_nodes, arguments_nodes, atom_nodes, literal_nodes}
 use Rattle.pm_cnf.specs.Meaning.{Gathers, Pairwise, Kept, kept_from, kept_among, argument_count, predicate_of, function_of, IsTreeOf, AreTreesOf, IsLiteralOf, literal_terms, applications_among}

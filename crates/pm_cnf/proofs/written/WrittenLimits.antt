@@ -3,7 +3,7 @@ use Rattle.std.proofs.Common.{arith, ◌≡◌, ◌<◌, ◌+◌, ◌≤◌, ℕ
 use Rattle.std.specs.Prelude.{Some, None, map, nat_le, not, ◌&&◌, if◌then◌else◌}
 use Rattle.std.specs.List.{AllByRecursion, flat_map, list_any}
 use Rattle.std.specs.Str.{bytes_eq}
-use Rattle.std.proofs.lemmas.Bool.Decides.{nat_tests}
+use Rattle.std.proofs.lemmas.Bool.{cond-false, lt-leb}
 use Rattle.pm_cnf.specs.declared.error.CnfKind.TheVariants.{TooManyClauses, TooManyLiterals}
 use Rattle.pm_cnf.specs.declared.limits.Limits.{Limits}
 use Rattle.pm_cnf.specs.declared.token.Mark.TheVariants.{CloseParenthesis, Comma, Tilde}
@@ -61,19 +61,13 @@ with_texts_grow : (known texts : List (List ℕ)) → length known ≤ length (w
 with_texts_grow known [] = omega arith
 with_texts_grow known (text ∷ texts) = omega (arith, with_text_grows known text, with_texts_grow (with_text known text) texts)
 
-above : (m n : ℕ) → n < m → nat_le m n ≡ false
-above m n lt = grind (arith, nat_tests)
-
 -- a variable that leaves them few enough isn't one too many
 few_with_text : (limits : Limits) (known : List (List ℕ)) (text : List ℕ) → length (with_text known text) ≤ limits.variables → has_too_many_variables limits known (upper text) ≡ false
 few_with_text limits known text few = by (list_any (bytes_eq text) known) few
   where
-    above : (m n : ℕ) → n < m → nat_le m n ≡ false
-    above m n lt = grind (arith, nat_tests)
-
     by : (found : Bool) → length (if found then known else known ++ text ∷ []) ≤ limits.variables → (not found && nat_le limits.variables (length known)) ≡ false
     by true h = refl
-    by false h = above limits.variables (length known) (omega (arith, h, length-append known (text ∷ [])))
+    by false h = lt-leb limits.variables (length known) (omega (arith, h, length-append known (text ∷ [])))
 
 word_few : (limits : Limits) (known : List (List ℕ)) (w : Word) → has_too_many_variables limits known (word_token w) ≡ false
 word_few limits known (bare text) = refl
@@ -126,18 +120,10 @@ module _ (limits : Limits) where
         )
 
   literal_allowed : (j : ℕ) → j < limits.literals → past_limit limits (a_literal j) false ≡ None
-  literal_allowed j less = by (nat_le limits.literals j) (above limits.literals j less)
-    where
-      by : (past : Bool) → past ≡ false → (if past then Some TooManyLiterals else None) ≡ None
-      by false is = refl
-      by true is = absurd cc
+  literal_allowed j less = cond-false (nat_le limits.literals j) (Some TooManyLiterals) None (lt-leb limits.literals j less)
 
   item_allowed : (n : ℕ) → n < limits.clauses → past_limit limits (an_item n) false ≡ None
-  item_allowed n less = by (nat_le limits.clauses n) (above limits.clauses n less)
-    where
-      by : (past : Bool) → past ≡ false → (if past then Some TooManyClauses else None) ≡ None
-      by false is = refl
-      by true is = absurd cc
+  item_allowed n less = cond-false (nat_le limits.clauses n) (Some TooManyClauses) None (lt-leb limits.clauses n less)
 
   module _ (new : List ℕ → List ℕ) where
     literal_within : (k : Kept) (j : ℕ) (known : List (List ℕ)) → j < limits.literals → PassNoLimit limits (arguments_places 1 k.args) → length (with_texts known (variables_among (renamed_all new k.args))) ≤ limits.variables

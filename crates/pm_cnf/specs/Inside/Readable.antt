@@ -2,11 +2,8 @@
 use Rattle.std.specs.Prelude.{◌≡◌, ℕ, ◌-◌, ◌^◌, ◌<◌, ◌≤◌, List, [], map, length, All}
 use Rattle.std.specs.List.{flat_map}
 use Rattle.pm_logic.specs.Problem.{IsPrintable}
-use Rattle.pm_cnf.specs.declared.error.CnfKind.{CnfKind}
 use Rattle.pm_cnf.specs.declared.limits.Limits.{Limits}
-use Rattle.pm_cnf.specs.Lexemes.{Lexeme, Lexes, tokens_in}
-use Rattle.pm_cnf.specs.Grammar.{word_text, Name, word, integer, Item, AreItems, file_places, tokens_of}
-use Rattle.pm_cnf.specs.Offences.{IsOffence}
+use Rattle.pm_cnf.specs.Grammar.{word_text, Name, word, integer, Item}
 use Rattle.pm_cnf.specs.Meaning.{literals_of, item_symbols, IsTextOf}
 use Rattle.pm_cnf.specs.Inside.Draft.{Written, written}
 
