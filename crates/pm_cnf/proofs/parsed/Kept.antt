@@ -19,6 +19,7 @@ use Rattle.pm_cnf.specs.Inside.Readable.{HasPrintableName, AreReadable}
 use Rattle.pm_cnf.proofs.lexemes.Forms.{tokens_have_form, tokens_fit}
 use Rattle.pm_cnf.proofs.offences.Within.{IsSound, sound_within, file_within}
 use Rattle.pm_cnf.specs.Inside.Scan.{HasForm}
+use Rattle.pm_cnf.proofs.Lists.{AllByRecursion-append}
 
 -- ---- words
 
@@ -58,8 +59,7 @@ form_append [] qs h = (tt, h)
 form_append (p ∷ ps) qs h = let more = form_append ps qs h.1 in ((h.0, more.0), more.1)
 
 pub printable_append : (ss us : List Symbol) → HavePrintableTexts ss → HavePrintableTexts us → HavePrintableTexts (ss ++ us)
-printable_append [] us h k = k
-printable_append (s ∷ ss) us h k = (h.0, printable_append ss us h.1 k)
+printable_append = AllByRecursion-append (λ s. IsPrintable s.text)
 
 mutual
   term_printable : (t : Term) (nesting n : ℕ) → HaveForm (term_places nesting n t) → HavePrintableTexts (symbols_in t)

@@ -18,6 +18,7 @@ use Rattle.pm_cnf.proofs.grammar.Forward.{in_item, in_formula, formula_then, end
 use Rattle.pm_cnf.proofs.grammar.Viable.{begun_item}
 use Rattle.pm_cnf.proofs.offences.FirstOffence.{variables_from-append}
 use Rattle.pm_cnf.proofs.offences.Within.{Within, within_append, item_within, follows_some}
+use Rattle.pm_cnf.proofs.Lists.{AllByRecursion-split}
 
 pub tokens_append : (ps qs : List Placed) → tokens_of (ps ++ qs) ≡ tokens_of ps ++ tokens_of qs
 tokens_append [] qs = refl
@@ -51,8 +52,7 @@ within_placed limits known [] within = tt
 within_placed limits known (p ∷ ps) within = (past_few limits p.1 (has_too_many_variables limits known p.0) within.0, within_placed limits (variables_from known (p.0 ∷ [])) ps within.1)
 
 pub placed_parts : (limits : Limits) (ps qs : List Placed) → PassNoLimit limits (ps ++ qs) → PassNoLimit limits ps × PassNoLimit limits qs
-placed_parts limits [] qs h = (tt, h)
-placed_parts limits (p ∷ ps) qs h = let more = placed_parts limits ps qs h.1 in ((h.0, more.0), more.1)
+placed_parts limits = AllByRecursion-split (λ p. past_limit limits p.1 false ≡ None)
 
 -- the arguments of literals are placed
 abbrev pub ArgumentsPassNoLimit : Limits → List Kept → Type 0

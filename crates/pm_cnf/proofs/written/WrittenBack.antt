@@ -1,5 +1,5 @@
 -- A problem that was read reads from its written clauses again.
-use Rattle.std.proofs.Common.{arith, ◌≡◌, ◌<◌, ◌^◌, ◌+◌, ◌≤◌, inl, inr, ℕ, zero, suc, length, Bool, List, [], ◌∷◌, ◌++◌, sym, ap, subst, ◌∙◌}
+use Rattle.std.proofs.Common.{arith, ◌≡◌, ◌<◌, ◌^◌, ◌+◌, ◌≤◌, ℕ, zero, suc, length, Bool, List, [], ◌∷◌, ◌++◌, sym, ap, subst, ◌∙◌}
 use Rattle.std.specs.Prelude.{Some, map, All, slice_get}
 use Rattle.std.specs.List.{AllByRecursion, flat_map}
 use Rattle.std.proofs.lemmas.List.{length-map}
@@ -20,6 +20,7 @@ use Rattle.pm_cnf.proofs.written.WrittenItems.{rename, plain_name, rewritten, Is
 use Rattle.pm_cnf.proofs.written.WrittenLimits.{CanWrite, file_goes}
 use Rattle.pm_cnf.proofs.written.WrittenProblem.{variables_once, place_is, new_variables, item_renamed, problem_rewritten}
 use Rattle.pm_cnf.proofs.meaning.ValidItems.{kept_few}
+use Rattle.pm_cnf.proofs.meaning.Gathering.{Gathers-all}
 
 -- ---- lists
 
@@ -29,9 +30,9 @@ all_kept_items P items h = recursion_from_All P (kept_items items) (All-filter i
 
 -- gathered symbols are printable where those are that they were gathered from
 gathered_printable : (old xs new : List logic.Symbol) → HavePrintableTexts old → HavePrintableTexts xs → Gathers old xs new → HavePrintableTexts new
-gathered_printable old [] new h k is = subst HavePrintableTexts is h
-gathered_printable old (x ∷ xs) new h k (inl g) = gathered_printable old xs new h k.1 g.1
-gathered_printable old (x ∷ xs) new h k (inr g) = gathered_printable (old ++ x ∷ []) xs new (printable_append old (x ∷ []) h (k.0, tt)) k.1 g.1
+gathered_printable old xs new h k is =
+    let P : logic.Symbol → Type 0 = λ s. IsPrintable s.text in
+    recursion_from_All P new (Gathers-all P xs old new is (All-from_recursion P old h) (All-from_recursion P xs k))
 
 printable_at : (symbols : List logic.Symbol) (f : ℕ) (s : logic.Symbol) → HavePrintableTexts symbols → slice_get symbols f ≡ Some s → IsPrintable s.text
 printable_at [] f s h is = absurd cc

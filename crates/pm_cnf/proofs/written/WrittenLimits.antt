@@ -17,12 +17,12 @@ use Rattle.pm_cnf.proofs.offences.Within.{Within}
 use Rattle.pm_cnf.proofs.written.Limited.{PassNoLimit, placed_parts, ArgumentsPassNoLimit, with_texts_append, word_known, name_known, term_known, arguments_known, item_known}
 use Rattle.pm_cnf.proofs.written.WrittenWords.{plain_word}
 use Rattle.pm_cnf.proofs.written.WrittenItems.{renamed, renamed_all, literal_from, formula_from, plain_name, rewritten, rename}
+use Rattle.pm_cnf.proofs.Lists.{AllByRecursion-append}
 
 -- ---- places
 
 placed_join : (limits : Limits) (ps qs : List Placed) → PassNoLimit limits ps → PassNoLimit limits qs → PassNoLimit limits (ps ++ qs)
-placed_join limits [] qs h k = k
-placed_join limits (p ∷ ps) qs h k = (h.0, placed_join limits ps qs h.1 k)
+placed_join limits = AllByRecursion-append (λ p. past_limit limits p.1 false ≡ None)
 
 -- names of variables change no place
 module _ (limits : Limits) (new : List ℕ → List ℕ) where
