@@ -157,8 +157,8 @@ impl<'a> Parser<'a> {
         }
     }
 
-    /// Reads one more token, or says why it is refused. A parser that refused a token isn't used
-    /// again.
+    /// Reads one more token, or says why it is refused: for want of memory only where nothing else
+    /// refuses it. A parser that refused a token isn't used again.
     pub fn accept(&mut self, token: Token<'a>) -> Result<(), Refusal>
         requires usual { AreUsual self.old.limits }
         requires room { self.old.around + 1 < 2 ^ 64 }

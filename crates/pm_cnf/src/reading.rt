@@ -18,7 +18,7 @@ use crate::token::Lexeme;
 use pm_logic::Problem;
 use std::alloc::Global;
 
-/// AcceptsLexeme the problem of a clause file.
+/// Reads the problem of a clause file.
 ///
 /// `bytes` are the whole file, fewer than 2^32 - 1 of them, and `limits` are within those of
 /// [`Limits::standard`]. The answer is the problem that the file has by its grammar
@@ -34,7 +34,7 @@ pub fn read(alloc: Global, bytes: &[u8], limits: &Limits) -> Result<Problem, Cnf
     Ok(number_items(alloc, &items)?)
 }
 
-// AcceptsLexeme the items of a file.
+// Reads the items of a file.
 fn read_items<'a>(
     alloc: Global,
     bytes: &'a [u8],
@@ -59,7 +59,7 @@ fn read_items<'a>(
     Ok(parser.into_items())
 }
 
-// AcceptsLexeme one more lexeme.
+// Reads one more lexeme.
 fn read_lexeme<'a>(parser: &mut Parser<'a>, lexeme: Lexeme<'a>) -> Result<(), Refusal>
     requires usual { AreUsual parser.old.limits }
     requires room { parser.old.around + 1 < 2 ^ 64 }

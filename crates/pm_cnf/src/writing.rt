@@ -109,9 +109,7 @@ fn write_arguments(
     args: &[TermId],
 ) -> Result<(), AllocError>
     requires { All (IsTerm problem.now.symbols problem.now.terms) args.now }
-    ensures { OnOk result
-        (into.new.items
-        ≡ into.old.items
+    ensures { OnOk result (into.new.items ≡ into.old.items
         ++ arguments_text problem.now.symbols
         (as_terms (map (tree_at problem.now.terms) args.now))) }
 {
@@ -136,8 +134,7 @@ fn write_arguments(
 // Opens the list of these arguments, if there are any.
 fn begin<'a>(pending: &mut Vec<Pending<'a>>, args: &'a [TermId]) -> Result<(), AllocError>
     ensures text { (symbols : List Symbol) (terms : List Term)
-        → OnOk result
-        (pending_text symbols terms pending.new.items
+        → OnOk result (pending_text symbols terms pending.new.items
         ≡ arguments_text symbols (as_terms (map (tree_at terms) args.now))
         ++ pending_text symbols terms pending.old.items) }
     ensures terms { (symbols : List Symbol) (terms : List Term)
