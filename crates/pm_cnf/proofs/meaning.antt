@@ -1,4 +1,4 @@
-pub mod Gathering
+pub mod Pairs
 pub mod GatheredOnce
 pub mod Nodes
 pub mod ValidItems

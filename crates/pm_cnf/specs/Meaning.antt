@@ -1,7 +1,8 @@
 -- The problem of the items of a file.
-use Rattle.std.specs.Prelude.{◌≡◌, ℕ, suc, ◌⊎◌, Bool, false, not, List, [], ◌∷◌, ◌++◌, filter, length, Some, Contains, slice_get}
+use Rattle.std.specs.Prelude.{◌≡◌, ℕ, suc, ◌⊎◌, Bool, false, not, List, [], ◌∷◌, ◌++◌, filter, length, Some, slice_get}
 use Rattle.std.specs.List.{list_any, flat_map}
 use Rattle.pm_logic.specs.declared.symbols.Kind.TheVariants.{Predicate, Function}
+use Rattle.pm_logic.specs.Lists.{Gathers}
 use Rattle.pm_logic.specs.Problem as logic
 use Rattle.pm_logic.specs.Term as tree
 use Rattle.pm_cnf.specs.declared.error.CnfKind.{CnfKind}
@@ -9,12 +10,6 @@ use Rattle.pm_cnf.specs.declared.limits.Limits.{Limits}
 use Rattle.pm_cnf.specs.Lexemes.{Lexeme, Lexes, tokens_in}
 use Rattle.pm_cnf.specs.Grammar.{Word, word_text, Term, variable, application, Arguments, no_arguments, more_arguments, Atom, predicate, truth, falsity, Literal, Formula, in_parentheses, disjunction, Name, word, integer, Item, AreItems, file_places, tokens_of}
 use Rattle.pm_cnf.specs.Offences.{with_text, IsOffence}
-
--- each of the elements in turn is there already, or becomes the last
-abbrev pub Gathers : {A : Type 0} → List A → List A → List A → Type 0
-Gathers old [] new = old ≡ new
-Gathers old (x ∷ xs) new =
-    (Contains old x × Gathers old xs new) ⊎ ((¬ Contains old x) × Gathers (old ++ x ∷ []) xs new)
 
 -- the two lists are as long, and the elements at each place are so related
 abbrev pub Pairwise : {A B : Type 0} → (A → B → Type 0) → List A → List B → Type 0

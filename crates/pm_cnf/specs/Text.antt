@@ -4,15 +4,15 @@ use Rattle.std.specs.List.{flat_map}
 use Rattle.std.specs.Option.{option_map_or}
 use Rattle.pm_logic.specs.Term.{Term, var, app, Terms, no_terms, more_terms, as_terms}
 use Rattle.pm_logic.specs.Problem.{Symbol, Literal, Label, word, integer, Clause, Problem}
-use Rattle.pm_logic.specs.Word.{written_word}
+use Rattle.pm_logic.specs.Word.{written_word, written_symbol}
 
 -- X and its number
 abbrev pub variable_text : ℕ → List ℕ
 variable_text n = codes "X" ++ decimal n
 
+-- = for equality, and the word of any other symbol
 abbrev pub symbol_text : List Symbol → ℕ → List ℕ
-symbol_text symbols number =
-    option_map_or (λ symbol. written_word symbol.text) (slice_get symbols number) []
+symbol_text symbols number = option_map_or written_symbol (slice_get symbols number) []
 
 -- arguments stand between ( and ), joined by ,
 abbrev mutual

@@ -5,12 +5,13 @@ ghost use Rattle.pm_logic.specs.Problem.{Numbers, IsPrintable};
 ghost use Rattle.pm_logic.specs.Term.{var, tree_at, as_terms};
 ghost use Rattle.pm_logic.specs.Table.{variable_count};
 ghost use Rattle.pm_logic.specs.View as view;
+ghost use Rattle.pm_logic.specs.Lists.{Gathers};
 ghost use Rattle.pm_cnf.specs.Inside.Readable.{AreReadable, HasPrintableName};
 ghost use Rattle.pm_cnf.specs.Inside.Parsed.{item_of, word_of, name_of, node_of};
 ghost use Rattle.pm_cnf.specs.Grammar as grammar;
 ghost use Rattle.pm_cnf.specs.Inside.Draft.{written, literal_nodes, arguments_nodes};
 ghost use Rattle.pm_cnf.specs.Offences.{with_text};
-ghost use Rattle.pm_cnf.specs.Meaning.{IsProblemOf, Gathers, Pairwise, AreTreesOf, kept_among, label_of};
+ghost use Rattle.pm_cnf.specs.Meaning.{IsProblemOf, Pairwise, AreTreesOf, kept_among, label_of};
 ghost use Rattle.pm_cnf.specs.Inside.Parts.{is_argument, IsArgument, AreWellFormed, applications_of, trees_of, IsPartOf, part_leaf, terms_among, Grows, AreNumbered, IsNumbered, ArePrintable, node_holds, texts_of, tables};
 
 use crate::item::{Item, Name, Node, Word};

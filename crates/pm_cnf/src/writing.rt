@@ -3,11 +3,11 @@ ghost use Rattle.std.specs.Prelude.{◌≡◌, ◌<◌, ◌≤◌, ◌++◌, Lis
 ghost use Rattle.pm_logic.specs.Term.{Term, as_terms, tree_at};
 ghost use Rattle.pm_logic.specs.Problem.{Symbol};
 ghost use Rattle.pm_logic.specs.View.{clause_of, label_of, literal_of};
-ghost use Rattle.pm_cnf.specs.Text.{arguments_text, clause_text, literal_text, literals_text, name_text, problem_text, symbol_text, term_text, variable_text};
+ghost use Rattle.pm_cnf.specs.Text.{arguments_text, clause_text, literal_text, literals_text, name_text, problem_text, term_text, variable_text};
 ghost use Rattle.pm_cnf.specs.Inside.Pending.{AreTerms, IsOver, IsTerm, pending_text};
 
 use itoa::Buffer;
-use pm_logic::{Clause, Literal, Name, Problem, Row, Symbols, TermId, write_word};
+use pm_logic::{Clause, Literal, Name, Problem, Row, TermId, write_symbol, write_word};
 use std::alloc::{AllocError, Global};
 
 /// The clauses of the problem as the text of a clause file: one line for each clause, in their
@@ -182,21 +182,13 @@ fn write_variable(into: &mut Vec<u8>, number: usize) -> Result<(), AllocError>
     into.extend_from_slice(buffer.format(number).as_bytes())
 }
 
-// Appends the word of the symbol of this number.
-fn write_symbol(into: &mut Vec<u8>, symbols: &Symbols, number: u32) -> Result<(), AllocError>
-    requires { number < length symbols.now }
-    ensures { OnOk result (into.new.items ≡ into.old.items ++ symbol_text symbols.now number) }
-{
-    write_word(into, symbols.text(number))
-}
-
 #[cfg(test)]
 mod tests {
     use super::*;
     use crate::error::CnfError;
     use crate::limits::Limits;
     use crate::reading::read;
-    use pm_logic::TermTable;
+    use pm_logic::{Symbols, TermTable};
     use std::test::Fail;
 
     // The problem of the empty clause of this name.

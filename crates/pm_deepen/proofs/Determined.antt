@@ -5,7 +5,7 @@ use Rattle.std.proofs.lemmas.Bool.{cases_order}
 use Rattle.std.specs.Prelude.{Option, Some, None}
 use Rattle.pm_logic.specs.Problem.{Problem}
 use Rattle.pm_logic.specs.Tableau.{Tableau}
-use Rattle.pm_logic.proofs.Unique.{general_unique}
+use Rattle.pm_calculus.proofs.Unique.{general_unique}
 use Rattle.pm_space.specs.Key.{Key}
 use Rattle.pm_search.specs.Turns.{Closes, Finds}
 use Rattle.pm_search.specs.Work.{Exceeds}

@@ -11,7 +11,7 @@ use Rattle.std.proofs.lemmas.Option.{slice_get_within, get_or_from_slice_get}
 use Rattle.pm_logic.specs.contracts.terms.EntryPartialEq.TheImpl as entry_eq
 use Rattle.pm_logic.specs.declared.terms.Entry.{Entry}
 use Rattle.pm_logic.specs.declared.terms.Entry.TheVariants.{Var, App}
-use Rattle.pm_logic.specs.Interned.{IsSame, Interns}
+use Rattle.pm_logic.specs.Inside.Interned.{IsSame, Interns}
 use Rattle.pm_logic.proofs.ListLemmas.{slice_get-push, below_or_last}
 
 -- the test that the table compares entries by

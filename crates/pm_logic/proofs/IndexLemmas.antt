@@ -14,7 +14,7 @@ use Rattle.pm_logic.specs.declared.symbols.Symbol.{Symbol as Row}
 use Rattle.pm_logic.specs.declared.symbols.Kind.{Kind}
 use Rattle.pm_logic.specs.Lists.{places}
 use Rattle.pm_logic.specs.Problem.{Symbol, Numbers}
-use Rattle.pm_logic.specs.Index.{symbol_of, numbers_of, IsIndexed}
+use Rattle.pm_logic.specs.Inside.Index.{symbol_of, numbers_of, IsIndexed}
 use Rattle.pm_logic.proofs.ListLemmas.{slice_get-last, places-sound, places-complete, places-push, Contains-stands, AreDistinct-push}
 
 -- a fact, whatever the error

@@ -1,4 +1,5 @@
 pub mod ListLemmas
+pub mod Gathering
 pub mod Tableaux
 pub mod NodeLemmas
 pub mod EntryLemmas
@@ -6,14 +7,3 @@ pub mod TableLemmas
 pub mod WordLemmas
 pub mod IndexLemmas
 pub mod StartLemmas
-pub mod Prefixes
-pub mod Alternatives
-pub mod Growth
-pub mod ListsToTrees
-pub mod TreesToLists
-pub mod Instances
-pub mod Refutation
-pub mod Examples
-pub mod General
-pub mod Unique
-pub mod Levels

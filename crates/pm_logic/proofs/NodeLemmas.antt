@@ -1,13 +1,13 @@
 -- The tableau of nodes in pre-order, with one more node, and its depth.
 use Rattle.std.proofs.Common.{◌≡◌, ℕ, ◌+◌, ◌<◌, ◌≤◌, max, List, [], ◌∷◌, ◌++◌, length, map, take, get_or, sym, ◌∙◌, ap, arith}
-use Rattle.std.proofs.lemmas.List.{map_push, map_more}
+use Rattle.std.proofs.lemmas.List.{map_push, map_more, length-map, length-take-le}
 use Rattle.std.proofs.lemmas.List.Elements.{All-push}
 use Rattle.std.proofs.lemmas.List.Sums.{fold_push}
 use Rattle.pm_logic.specs.declared.tableau.Node.{Node}
 use Rattle.pm_logic.specs.Term.{Term}
 use Rattle.pm_logic.specs.Tableau.{no_nodes, preorder, preorder_among, deepest_next, with_entry, forest_of}
 use Rattle.pm_logic.specs.View.{HasRows, entry_of, tableau_of, IsPreorder}
-use Rattle.pm_logic.proofs.Tableaux.{preorder-with_entry, deepest, deepest-append}
+use Rattle.pm_logic.proofs.Tableaux.{preorder-with_entry, deepest, deepest-append, inner_of, inner_count, inner_count-append, inner_count-few}
 
 forest_of-push : (terms : List Term) (nodes : List Node) (node : Node)
     → forest_of (map (entry_of terms) (nodes ++ node ∷ [])) ≡ with_entry (forest_of (map (entry_of terms) nodes)) (entry_of terms node)
@@ -43,3 +43,17 @@ deepest-more terms nodes i node before after lt is was now =
     ap deepest (map_more (entry_of terms) nodes i node lt)
     ∙ ap (λ (n : Node). deepest (map (entry_of terms) (take i nodes) ++ entry_of terms n ∷ [])) (sym is) in
     omega (arith, more, deepest-append (map (entry_of terms) (take i nodes)) (entry_of terms node ∷ []))
+
+-- how many nodes carry a clause, one node on
+pub inner_count-more : (terms : List Term) (nodes : List Node) (i : ℕ) (node : Node) → i < length nodes → node ≡ get_or nodes i node
+    → inner_count (map (entry_of terms) (take (i + 1) nodes)) ≡ inner_count (map (entry_of terms) (take i nodes)) + inner_of node.kind
+inner_count-more terms nodes i node lt is =
+    let more : inner_count (map (entry_of terms) (take (i + 1) nodes)) ≡ inner_count (map (entry_of terms) (take i nodes) ++ entry_of terms node ∷ []) =
+    ap inner_count (map_more (entry_of terms) nodes i node lt)
+    ∙ ap (λ (n : Node). inner_count (map (entry_of terms) (take i nodes) ++ entry_of terms n ∷ [])) (sym is) in
+    omega (arith, more, inner_count-append (map (entry_of terms) (take i nodes)) (entry_of terms node ∷ []))
+
+-- no more nodes carry a clause than there are
+pub inner_count-within : (terms : List Term) (nodes : List Node) (i : ℕ) → i ≤ length nodes → inner_count (map (entry_of terms) (take i nodes)) ≤ i
+inner_count-within terms nodes i le =
+    omega (arith, inner_count-few (map (entry_of terms) (take i nodes)), length-map (take i nodes) (entry_of terms), length-take-le i nodes le)

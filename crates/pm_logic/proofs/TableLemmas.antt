@@ -11,11 +11,11 @@ use Rattle.pm_logic.specs.declared.terms.Entry.{Entry}
 use Rattle.pm_logic.specs.declared.terms.Entry.TheVariants.{Var, App}
 use Rattle.pm_logic.specs.Lists.{AreDistinct}
 use Rattle.pm_logic.specs.Term.{Term, var, app, as_terms, list_of, tree_at}
-use Rattle.pm_logic.specs.Interned.{IsSame, IsFound, IsNew, Interns}
+use Rattle.pm_logic.specs.Inside.Interned.{IsSame, IsFound, IsNew, Interns}
 use Rattle.pm_logic.specs.Table.{tree_of, trees_from, trees, PointsBelow, PointDown, variable_count, IsTable, Adds}
 use Rattle.pm_logic.proofs.ListLemmas.{Contains-from, Contains-stands, slice_get-last, Contains-push, AreDistinct-push}
 
-list_of-as_terms : (ts : List Term) → list_of (as_terms ts) ≡ ts
+pub list_of-as_terms : (ts : List Term) → list_of (as_terms ts) ≡ ts
 list_of-as_terms [] = refl
 list_of-as_terms (t ∷ ts) = ap (λ us. t ∷ us) (list_of-as_terms ts)
 

@@ -1,12 +1,12 @@
 -- Trees and their nodes in pre-order.
-use Rattle.std.proofs.Common.{◌≡◌, ℕ, zero, suc, ◌+◌, ◌-◌, ◌≤◌, max, List, [], ◌∷◌, ◌++◌, refl, sym, ◌∙◌, ap, arith, append_assoc}
+use Rattle.std.proofs.Common.{◌≡◌, ℕ, zero, suc, ◌+◌, ◌-◌, ◌≤◌, max, List, [], ◌∷◌, ◌++◌, length, refl, sym, ◌∙◌, ap, arith, append_assoc}
 use Rattle.std.specs.List.{fold}
 use Rattle.std.proofs.lemmas.List.{append-nil}
 use Rattle.std.proofs.lemmas.List.Sums.{fold-append}
 use Rattle.pm_logic.specs.declared.tableau.NodeKind.{NodeKind}
 use Rattle.pm_logic.specs.declared.tableau.NodeKind.TheVariants.{Leaf, Inner}
 use Rattle.pm_logic.specs.Problem.{Literal}
-use Rattle.pm_logic.specs.Tableau.{Node, leaf, inner, Nodes, no_nodes, more_nodes, Entry, Tableau, depth_below, depth_among, preorder_of, preorder_among, preorder, deepest_after, deepest_next, childless, with_last, with_last_child, with_entry, forest_of, PreorderDetermines}
+use Rattle.pm_logic.specs.Tableau.{Node, leaf, inner, Nodes, no_nodes, more_nodes, Entry, Tableau, depth_below, depth_among, instances_below, instances_among, preorder_of, preorder_among, preorder, deepest_after, deepest_next, childless, with_last, with_last_child, with_entry, forest_of, PreorderDetermines}
 
 -- how many levels the right edge of a forest has
 abbrev mutual
@@ -220,6 +220,41 @@ mutual
 -- a tableau is as deep as its deepest node
 pub deepest-preorder : (t : Tableau) → deepest (preorder t) ≡ depth_among t.children
 deepest-preorder t = omega (arith, deepest-among 0 t.children)
+
+-- how many of the entries carry a clause
+abbrev pub inner_of : NodeKind → ℕ
+inner_of Leaf = 0
+inner_of (Inner clause) = 1
+
+abbrev pub inner_count : List Entry → ℕ
+inner_count [] = 0
+inner_count (e ∷ es) = inner_of e.kind + inner_count es
+
+pub inner_count-append : (es fs : List Entry) → inner_count (es ++ fs) ≡ inner_count es + inner_count fs
+inner_count-append [] fs = omega arith
+inner_count-append (e ∷ es) fs = omega (arith, inner_count-append es fs)
+
+inner_of-small : (kind : NodeKind) → inner_of kind ≤ 1
+inner_of-small Leaf = omega arith
+inner_of-small (Inner clause) = omega arith
+
+pub inner_count-few : (es : List Entry) → inner_count es ≤ length es
+inner_count-few [] = omega arith
+inner_count-few (e ∷ es) = omega (arith, inner_of-small e.kind, inner_count-few es)
+
+mutual
+  inner_count-of : (d : ℕ) (x : Node) → inner_count (preorder_of d x) ≡ instances_below x
+  inner_count-of d (leaf l) = omega arith
+  inner_count-of d (inner l c children) = omega (arith, inner_count-among (d + 1) children)
+
+  inner_count-among : (d : ℕ) (xs : Nodes) → inner_count (preorder_among d xs) ≡ instances_among xs
+  inner_count-among d no_nodes = refl
+  inner_count-among d (more_nodes x xs) =
+      omega (arith, inner_count-append (preorder_of d x) (preorder_among d xs), inner_count-of d x, inner_count-among d xs)
+
+-- the nodes below the root that carry a clause are counted in pre-order
+pub inner_count-preorder : (t : Tableau) → inner_count (preorder t) ≡ instances_among t.children
+inner_count-preorder t = inner_count-among 1 t.children
 
 -- a tableau is determined by its root's clause and its nodes in pre-order
 pub determined : PreorderDetermines

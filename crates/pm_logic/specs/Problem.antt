@@ -4,7 +4,7 @@ use Rattle.std.specs.List.{list_all}
 use Rattle.std.specs.Str.{bytes_eq}
 pub use Rattle.pm_logic.specs.Lists.{AreDistinct, places}
 use Rattle.pm_logic.specs.declared.symbols.Kind.{Kind}
-use Rattle.pm_logic.specs.declared.symbols.Kind.TheVariants.{Predicate, Function}
+use Rattle.pm_logic.specs.declared.symbols.Kind.TheVariants.{Predicate, Function, Equality}
 use Rattle.pm_logic.specs.declared.problem.Start.{Start}
 use Rattle.pm_logic.specs.declared.problem.Start.TheVariants.{Negative, All as Every, Goal}
 use Rattle.pm_logic.specs.Term.{Term, var, app, Terms, no_terms, more_terms, list_of}
@@ -45,7 +45,8 @@ pub record Numbers (old new : List Symbol) (symbol : Symbol) (number : ℕ) : Ty
 
 -- the symbol of this number is of this kind and takes so many arguments
 abbrev pub HasShape : List Symbol → ℕ → Kind → ℕ → Type 0
-HasShape symbols number kind arity = IsSomeAnd (slice_get symbols number) (λ s. (s.kind ≡ kind) × (s.arity ≡ arity))
+HasShape symbols number kind arity =
+    IsSomeAnd (slice_get symbols number) (λ s. (s.kind ≡ kind) × (s.arity ≡ arity))
 
 -- a term over these symbols and so many variables
 abbrev mutual
@@ -57,8 +58,11 @@ abbrev mutual
   AreTermsOver symbols vars no_terms = Unit {0}
   AreTermsOver symbols vars (more_terms t ts) = IsTermOver symbols vars t × AreTermsOver symbols vars ts
 
+-- a literal's symbol is a predicate, or equality
 pub record IsLiteralOver (symbols : List Symbol) (vars : ℕ) (literal : Literal) : Type 0 where
-  pub predicate : HasShape symbols literal.predicate Predicate (length literal.args)
+  pub predicate :
+      HasShape symbols literal.predicate Predicate (length literal.args)
+      ⊎ HasShape symbols literal.predicate Equality (length literal.args)
   pub args : All (IsTermOver symbols vars) literal.args
 
 pub record IsClauseOver (symbols : List Symbol) (clause : Clause) : Type 0 where
@@ -69,9 +73,14 @@ pub record IsClauseOver (symbols : List Symbol) (clause : Clause) : Type 0 where
 abbrev pub IsPrintable : List ℕ → Type 0
 IsPrintable text = (0 < length text) × All (λ b. (32 ≤ b) × (b ≤ 126)) text
 
+-- the text `=` with two arguments: the one symbol of the kind Equality
+abbrev pub IsEquality : Symbol → Type 0
+IsEquality symbol = (symbol.text ≡ codes "=") × (symbol.arity ≡ 2)
+
 pub record IsValid (problem : Problem) : Type 0 where
   pub few : length problem.clauses ≤ 65536
   pub texts : All (λ s. IsPrintable s.text) problem.symbols
+  pub equality : All (λ s. s.kind ≡ Equality → IsEquality s) problem.symbols
   pub clauses : All (IsClauseOver problem.symbols) problem.clauses
 
 -- whether a start rule picks the clause

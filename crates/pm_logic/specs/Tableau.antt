@@ -1,5 +1,7 @@
 -- Tableaux as trees.
 use Rattle.std.specs.Prelude.{◌≡◌, ℕ, zero, suc, ◌+◌, ◌-◌, List, [], ◌∷◌, ◌++◌, max, fold}
+use Rattle.pm_logic.specs.declared.tableau.BoundKind.{BoundKind}
+use Rattle.pm_logic.specs.declared.tableau.BoundKind.TheVariants.{Depth, Inferences}
 use Rattle.pm_logic.specs.declared.tableau.NodeKind.{NodeKind}
 use Rattle.pm_logic.specs.declared.tableau.NodeKind.TheVariants.{Leaf, Inner}
 use Rattle.pm_logic.specs.Term.{Term}
@@ -37,6 +39,24 @@ abbrev mutual
 
 abbrev pub depth : Tableau → ℕ
 depth tableau = depth_among tableau.children
+
+-- the number of nodes that carry a clause, the root among them
+abbrev mutual
+  pub instances_below : Node → ℕ
+  instances_below (leaf literal) = 0
+  instances_below (inner literal clause children) = 1 + instances_among children
+
+  pub instances_among : Nodes → ℕ
+  instances_among no_nodes = 0
+  instances_among (more_nodes node nodes) = instances_below node + instances_among nodes
+
+abbrev pub instances : Tableau → ℕ
+instances tableau = 1 + instances_among tableau.children
+
+-- the size of a tableau under a bound: its depth, or its number of clause instances
+abbrev pub size : BoundKind → Tableau → ℕ
+size Depth tableau = depth tableau
+size Inferences tableau = instances tableau
 
 -- a node by itself: how deep it lies, its literal, and its kind
 pub record Entry : Type 0 where

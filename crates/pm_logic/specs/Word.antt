@@ -1,7 +1,10 @@
--- How words are written.
+-- How words and symbols are written.
 use Rattle.std.specs.Prelude.{ℕ, ◌==◌, ◌||◌, ◌&&◌, ◌++◌, Bool, false, List, [], ◌∷◌, if◌then◌else◌}
 use Rattle.std.specs.List.{list_all, flat_map}
 use Rattle.std.specs.Char.{is_ascii_lowercase, is_ascii_alphanumeric}
+use Rattle.pm_logic.specs.declared.symbols.Kind.{Kind}
+use Rattle.pm_logic.specs.declared.symbols.Kind.TheVariants.{Equality}
+use Rattle.pm_logic.specs.Problem.{Symbol}
 
 -- a letter, a digit or _
 abbrev pub is_word_byte : ℕ → Bool
@@ -23,3 +26,11 @@ quoted text = 39 ∷ flat_map escaped text ++ 39 ∷ []
 -- a lower word stays bare, and any other text is quoted
 abbrev pub written_word : List ℕ → List ℕ
 written_word text = if is_lower_word text then text else quoted text
+
+-- a symbol of a kind: equality as =, and any other as its text
+abbrev pub written_as : Kind → List ℕ → List ℕ
+written_as Equality text = 61 ∷ []
+written_as kind text = written_word text
+
+abbrev pub written_symbol : Symbol → List ℕ
+written_symbol symbol = written_as symbol.kind symbol.text

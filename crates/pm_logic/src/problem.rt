@@ -1,3 +1,4 @@
+//! Literals, clauses and problems.
 ghost use Rattle.std.specs.Prelude.{◌≡◌, ◌<◌, [], All, Some, IfOk, List, length, map, not, slice_get};
 ghost use Rattle.std.specs.List.{list_all};
 ghost use Rattle.pm_logic.specs.Term.{Term};
@@ -61,7 +62,7 @@ pub struct Problem {
 impl Model for Problem {
     ghost use Rattle.std.specs.Prelude.{map};
     ghost use Rattle.pm_logic.specs.Problem as spec;
-    ghost use Rattle.pm_logic.specs.Codes.{problem_code};
+    ghost use Rattle.pm_logic.specs.Inside.Codes.{problem_code};
 
     ghost Value = { spec.Problem };
 

@@ -1,18 +1,21 @@
+//! Symbols and their numbers.
 ghost use Rattle.std.specs.Prelude.{◌≡◌, ℕ, ◌-◌, ◌^◌, ◌<◌, [], length, Some, Contains, IfOk, IfSome, IfNone, IsSomeAnd, OnOk, OnErr, slice_get, string_bytes, if◌then◌else◌, ◌++◌, ◌∷◌, List};
 ghost use Rattle.std.specs.Str.{bytes_eq};
 ghost use Rattle.pm_logic.specs.Lists.{AreDistinct};
 ghost use Rattle.pm_logic.specs.Problem.{Numbers};
-ghost use Rattle.pm_logic.specs.Index.{numbers_of};
+ghost use Rattle.pm_logic.specs.Inside.Index.{numbers_of};
 
 use indexmap::IndexMap;
 use std::alloc::{AllocError, Global};
 use std::marker::Model;
 
-/// What a symbol is used as.
+/// What a symbol is used as. Only the text `=` with two arguments is of the kind `Equality`; the word
+/// `'='` is a predicate or a function beside it.
 #[derive(Clone, Copy, Debug, PartialEq, Eq, Hash)]
 pub enum Kind {
     Predicate,
     Function,
+    Equality,
 }
 
 /// A symbol as it is kept.
@@ -39,7 +42,7 @@ impl Model for Symbols {
 
     ghost Value = { List Symbol };
 
-    ghost use Rattle.pm_logic.specs.Index.{symbol_of, IsIndexed};
+    ghost use Rattle.pm_logic.specs.Inside.Index.{symbol_of, IsIndexed};
 
     ghost view = { λ a. map symbol_of a.rows.items };
 

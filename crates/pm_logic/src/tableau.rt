@@ -1,11 +1,19 @@
+//! Tableaux as nodes in pre-order, and their sizes.
 ghost use Rattle.std.specs.Prelude.{◌≡◌, ◌≤◌, ◌++◌, ◌∷◌, [], All, OnOk, OnErr, length, map};
-ghost use Rattle.pm_logic.specs.Tableau.{PreorderDetermines, no_nodes, preorder, deepest_next, depth};
+ghost use Rattle.pm_logic.specs.Tableau.{PreorderDetermines, no_nodes, preorder, deepest_next, depth, instances};
 ghost use Rattle.pm_logic.specs.View.{HasRows, entry_of};
 
 use crate::problem::Literal;
 use crate::terms::TermTable;
 use std::alloc::{AllocError, Global};
 use std::marker::Model;
+
+/// What bounds the tableaux of a level: their depth, or their number of clause instances.
+#[derive(Clone, Copy, Debug, PartialEq, Eq, Hash)]
+pub enum BoundKind {
+    Depth,
+    Inferences,
+}
 
 /// A leaf, or a node with the children that the clause of this index gave it.
 #[derive(Clone, Copy, Debug, PartialEq, Eq, Hash)]
@@ -33,7 +41,7 @@ pub struct Tableau {
 
 impl Model for Tableau {
     ghost use Rattle.pm_logic.specs.Tableau as spec;
-    ghost use Rattle.pm_logic.specs.Codes.{tableau_code};
+    ghost use Rattle.pm_logic.specs.Inside.Codes.{tableau_code};
 
     ghost Value = { spec.TableauWithTerms };
 
@@ -107,6 +115,20 @@ pub fn tableau_depth(tableau: &Tableau) -> u32
     deepest
 }
 
+/// The number of clause instances of the tableau: of its nodes that carry a clause, the root among them.
+pub fn tableau_instances(tableau: &Tableau) -> u64
+    ensures { result ≡ instances tableau.now.tableau }
+{
+    let mut inner: u64 = 0;
+    for node in tableau.nodes() {
+        match node.kind {
+            NodeKind::Leaf => {}
+            NodeKind::Inner { .. } => inner += 1,
+        }
+    }
+    inner + 1
+}
+
 /// A tableau is determined by its root's clause and its nodes in pre-order.
 pub fn preorder_determines()
     ensures { PreorderDetermines }
@@ -138,6 +160,7 @@ mod tests {
     fn no_nodes_have_depth_zero(rt: HostRuntime) {
         let tableau = Tableau::new(rt.alloc(), TermTable::new(rt.alloc()), 3);
         assert_eq!(rt; tableau_depth(&tableau), 0);
+        assert_eq!(rt; tableau_instances(&tableau), 1);
         assert_eq!(rt; tableau.root(), 3);
         assert_eq!(rt; tableau.nodes().len(), 0);
         assert_eq!(rt; tableau.terms().len(), 0);
@@ -149,6 +172,7 @@ mod tests {
         tableau.add(node(rt.alloc(), 1, false, NodeKind::Inner { clause: 0 }))?;
         tableau.add(node(rt.alloc(), 2, true, NodeKind::Leaf))?;
         assert_eq!(rt; tableau_depth(&tableau), 2);
+        assert_eq!(rt; tableau_instances(&tableau), 2);
         assert_eq!(rt; tableau.nodes().len(), 2);
         Ok(())
     }

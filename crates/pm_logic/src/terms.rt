@@ -1,8 +1,9 @@
+//! Terms in a table, each tree once.
 ghost use Rattle.std.specs.Prelude.{◌≡◌, ◌↔◌, ◌<◌, ◌≤◌, ◌+◌, ◌^◌, ◌++◌, ◌∷◌, [], All, IfOk, IsTrue, OnErr, OnOk, length, map};
 ghost use Rattle.pm_logic.specs.Lists.{AreDistinct};
 ghost use Rattle.pm_logic.specs.Term.{var, app, as_terms, tree_at};
 ghost use Rattle.pm_logic.specs.Table.{Adds, variable_count};
-ghost use Rattle.pm_logic.specs.Interned.{Interns};
+ghost use Rattle.pm_logic.specs.Inside.Interned.{Interns};
 ghost use Rattle.pm_logic.specs.Row.{Shows};
 
 use indexmap::IndexSet;
@@ -84,6 +85,14 @@ impl TermTable {
         ensures distinct { AreDistinct self.now }
     {
         self.rows.len()
+    }
+
+    /// The term of this number: rows are numbered from 0 on.
+    pub fn id(&self, row: usize) -> TermId
+        requires { row < length self.now }
+        ensures { result ≡ row }
+    {
+        TermId(row)
     }
 
     /// Adds the next variable, numbered by how many variables there are, and gives its row: the

@@ -1,7 +1,9 @@
-ghost use Rattle.std.specs.Prelude.{◌≡◌, ◌++◌, List, ℕ, OnErr, OnOk, length, take};
+//! Words and symbols in output.
+ghost use Rattle.std.specs.Prelude.{◌≡◌, ◌<◌, ◌++◌, List, ℕ, IsSomeAnd, OnErr, OnOk, length, slice_get, take};
 ghost use Rattle.std.specs.List.{list_all};
-ghost use Rattle.pm_logic.specs.Word.{escaped, is_lower_word, is_word_byte, quoted, written_word};
+ghost use Rattle.pm_logic.specs.Word.{escaped, is_lower_word, is_word_byte, quoted, written_symbol, written_word};
 
+use crate::symbols::{Kind, Symbols};
 use std::alloc::AllocError;
 
 /// Appends the text as a word: bare where it is a lower word (a letter from `a` to `z`, then ASCII
@@ -20,6 +22,20 @@ pub fn write_word(into: &mut Vec<u8>, text: &str) -> Result<(), AllocError>
         into.truncate(before);
     }
     written
+}
+
+/// Appends the symbol of this number: `=` for equality, and any other symbol's text as a word. Where
+/// memory is wanting `into` stays as it was.
+pub fn write_symbol(into: &mut Vec<u8>, symbols: &Symbols, id: u32) -> Result<(), AllocError>
+    requires { id < length symbols.now }
+    ensures ok { OnOk result (IsSomeAnd (slice_get symbols.now id)
+        (λ symbol. into.new.items ≡ into.old.items ++ written_symbol symbol)) }
+    ensures err { OnErr result (into.new.items ≡ into.old.items) }
+{
+    match symbols.kind(id) {
+        Kind::Equality => into.extend_from_slice(b"="),
+        Kind::Predicate | Kind::Function => write_word(into, symbols.text(id)),
+    }
 }
 
 // Whether the text is a lower word.
@@ -99,6 +115,21 @@ mod tests {
             assert_eq!(rt; into[0], b'-');
             assert_eq!(rt; &into[1..], word.as_bytes(), "{text}");
         }
+        Ok(())
+    }
+
+    #[test]
+    fn symbols_by_kind(rt: HostRuntime) -> Result<(), Fail> {
+        let mut symbols = Symbols::new(rt.alloc());
+        let equality = symbols.number("=", 2, Kind::Equality)?;
+        let word = symbols.number("=", 2, Kind::Predicate)?;
+        assert_ne!(rt; equality, word);
+        assert_eq!(rt; symbols.len(), 2);
+        let mut into = Vec::new(rt.alloc());
+        write_symbol(&mut into, &symbols, 0)?;
+        assert_eq!(rt; into.as_slice(), b"=".as_slice());
+        write_symbol(&mut into, &symbols, 1)?;
+        assert_eq!(rt; into.as_slice(), b"='='".as_slice());
         Ok(())
     }
 }

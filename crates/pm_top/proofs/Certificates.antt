@@ -5,26 +5,27 @@ use Rattle.std.proofs.lemmas.List.{append-nil, drop_more}
 use Rattle.std.proofs.Math.Seq.{take-append_seam}
 use Rattle.pm_logic.specs.Lists.{places}
 use Rattle.pm_logic.specs.Problem.{Symbol, Literal}
-use Rattle.pm_logic.specs.Skeleton.{face_of, is_opposite}
+use Rattle.pm_calculus.specs.Skeleton.{face_of}
+use Rattle.pm_calculus.specs.Alternatives.{has_face, opposite}
 use Rattle.pm_logic.specs.Tableau.{Node, leaf, inner, Nodes, no_nodes, more_nodes, Entry, childless, preorder_of, preorder_among}
 use Rattle.pm_top.specs.Certificate.{lines_below, lines_among}
 
 -- ---- the ancestor that closes a leaf
 -- the same as the closer, where none of the first literals of the branch is complementary
 abbrev pub closer_from : ℕ → List Literal → Literal → ℕ
-closer_from i above literal = slice_index_or (places (is_opposite (face_of literal)) (i + 1) (drop i above)) 0 0
+closer_from i above literal = slice_index_or (places (has_face (opposite (face_of literal))) (i + 1) (drop i above)) 0 0
 
 -- it is the next one, if that is complementary, and else comes later
 pub closer-next : (i : ℕ) (above : List Literal) (literal ancestor : Literal) (test : Bool) → i < length above → get_or above i ancestor ≡ ancestor
-    → is_opposite (face_of literal) ancestor ≡ test → closer_from i above literal ≡ cond test (i + 1) (closer_from (i + 1) above literal)
+    → has_face (opposite (face_of literal)) ancestor ≡ test → closer_from i above literal ≡ cond test (i + 1) (closer_from (i + 1) above literal)
 closer-next i above literal ancestor test lt is tested =
-    ap (λ (ls : List Literal). slice_index_or (places (is_opposite (face_of literal)) (i + 1) ls) 0 0) (drop_more above i ancestor lt)
-    ∙ ap (λ (l : Literal). slice_index_or (places (is_opposite (face_of literal)) (i + 1) (l ∷ drop (i + 1) above)) 0 0) is
+    ap (λ (ls : List Literal). slice_index_or (places (has_face (opposite (face_of literal))) (i + 1) ls) 0 0) (drop_more above i ancestor lt)
+    ∙ ap (λ (l : Literal). slice_index_or (places (has_face (opposite (face_of literal))) (i + 1) (l ∷ drop (i + 1) above)) 0 0) is
     ∙ ap (λ (b : Bool). slice_index_or (cond b ((i + 1) ∷ later) later) 0 0) tested
     ∙ by test
   where
     later : List ℕ
-    later = places (is_opposite (face_of literal)) (i + 1 + 1) (drop (i + 1) above)
+    later = places (has_face (opposite (face_of literal))) (i + 1 + 1) (drop (i + 1) above)
 
     by : (b : Bool) → slice_index_or (cond b ((i + 1) ∷ later) later) 0 0 ≡ cond b (i + 1) (slice_index_or later 0 0)
     by true = refl

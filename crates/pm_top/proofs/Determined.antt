@@ -15,7 +15,7 @@ use Rattle.pm_top.specs.declared.run.TheConstants.{MAX_FILE_BYTES}
 use Rattle.pm_top.specs.declared.status.Status.{Status}
 use Rattle.pm_top.specs.declared.status.Status.TheVariants as ends
 use Rattle.pm_top.specs.JobWords.{Job, prove, clauses, file_of, job_of}
-use Rattle.pm_top.specs.Drawn.{HasNoArguments}
+use Rattle.pm_top.specs.Arguments.{HasNoArguments}
 use Rattle.pm_top.specs.Text.{bad_words, input_error, arguments_not_built, too_long}
 use Rattle.pm_top.specs.Run.{Fetched, no_file, these_bytes, over_limit, HasLearnt, standard, standard_limits, status_of, text_of, EndsSearch, IsRefusal, EndsProof, EndsClauses, EndsJob, IsOutput, OutputIsDetermined}
 

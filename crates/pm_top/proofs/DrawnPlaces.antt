@@ -13,8 +13,9 @@ use Rattle.pm_logic.specs.Term.{Term, tree_at}
 use Rattle.pm_logic.specs.Problem.{Literal, Clause}
 use Rattle.pm_logic.specs.View.{literal_of}
 use Rattle.pm_logic.specs.Tableau.{Entry, preorder_of, preorder_among}
-use Rattle.pm_logic.specs.Skeleton.{Skeleton, unclosed, closed, extended, Skeletons, no_skeletons, more_skeletons, literals_at, leaves, leaves_but}
-use Rattle.pm_top.specs.Drawn.{IsBare, drawn_below, drawn_among}
+use Rattle.pm_calculus.specs.Skeleton.{Skeleton, unclosed, closed, extended, Skeletons, no_skeletons, more_skeletons, literals_at, leaves, leaves_but}
+use Rattle.pm_top.specs.Arguments.{IsBare}
+use Rattle.pm_top.specs.Drawn.{drawn_below, drawn_among}
 use Rattle.pm_top.specs.Drawing.{DrewClosed, entry_as, is_closed_at, pending_at}
 use Rattle.pm_top.specs.declared.drawing.Pending.{Pending}
 use Rattle.pm_top.proofs.Labels.{no_args}
@@ -34,8 +35,8 @@ mutual
   preorder_below : (clauses : List Clause) (above : List Literal) (l : Literal) (s : Skeleton) (d : ℕ) → d ≡ length above + 1
       → preorder_of d (drawn_below clauses l s) ≡ map entry_at (places_below clauses above l s)
   preorder_below clauses above l (unclosed face) d is = ap (λ (n : ℕ). record { depth = n; literal = l; kind = Leaf } ∷ []) is
-  preorder_below clauses above l (closed k) d is = ap (λ (n : ℕ). record { depth = n; literal = l; kind = Leaf } ∷ []) is
-  preorder_below clauses above l (extended c trees) d is =
+  preorder_below clauses above l (closed face k) d is = ap (λ (n : ℕ). record { depth = n; literal = l; kind = Leaf } ∷ []) is
+  preorder_below clauses above l (extended face c trees) d is =
       ap₂ (λ (n : ℕ) (es : List Entry). record { depth = n; literal = l; kind = Inner c } ∷ es) is
       (preorder_places clauses (above ++ l ∷ []) (literals_at clauses c) trees (d + 1) (omega (arith, is, length_push above l)))
 
@@ -49,7 +50,7 @@ mutual
 
 -- ---- pending literals stand for places
 -- as a leaf it is the node at the place, and its parent closes it unless the place is unclosed
-pub record Stands (p : Place) (pending : Pending) : Type 0 where
+pub record StandsFor (p : Place) (pending : Pending) : Type 0 where
   pub node : entry_at p ≡ entry_as Leaf pending
   pub mark : is_open p ≡ not pending.closed
 
@@ -57,7 +58,7 @@ abbrev pub StandFor : List Place → List Pending → Type 0
 StandFor [] [] = Unit {0}
 StandFor [] (q ∷ qs) = ⊥
 StandFor (p ∷ ps) [] = ⊥
-StandFor (p ∷ ps) (q ∷ qs) = Stands p q × StandFor ps qs
+StandFor (p ∷ ps) (q ∷ qs) = StandsFor p q × StandFor ps qs
 
 StandFor-append : (ps rs : List Place) (qs ts : List Pending) → StandFor ps qs → StandFor rs ts → StandFor (ps ++ rs) (qs ++ ts)
 StandFor-append [] rs [] ts h k = k
@@ -74,7 +75,7 @@ StandFor-nodes (p ∷ ps) (q ∷ qs) h = ap₂ (λ (e : Entry) (es : List Entry)
 -- the literals of a clause, one by one
 stands : (terms : List Term) (above : List Literal) (depth : ℕ) (closes : Option ℕ) (i : ℕ) (l : Row) (mark : Mark) → kind_of mark ≡ Leaf
     → depth ≡ length above + 1 → IsBare (literal_of terms l) → is_open (place above (literal_of terms l) mark) ≡ not (is_closed_at closes i)
-    → Stands (place above (literal_of terms l) mark) (pending_at depth closes (i, l))
+    → StandsFor (place above (literal_of terms l) mark) (pending_at depth closes (i, l))
 stands terms above depth closes i l mark leaf is bare marks =
     let node : ℕ → List Term → NodeKind → Entry = λ n args kind. record { depth = n; literal = record { positive = l.positive; predicate = l.predicate; args = args }; kind = kind } in
     record {
@@ -179,7 +180,7 @@ pub record Becomes (places : List Place) (node : Entry) (children : List Pending
 
 -- its place is the first unclosed one, so that is the one that is filled
 pub filled_next : (f : Place → List Place) (places : List Place) (old new : List Entry) (next : Pending) (rest children : List Pending) (node : Entry)
-    → next.closed ≡ false → new ≡ old ++ node ∷ [] → ((p : Place) → Stands p next → Becomes (f p) node children)
+    → next.closed ≡ false → new ≡ old ++ node ∷ [] → ((p : Place) → StandsFor p next → Becomes (f p) node children)
     → IsUnderway places old (next ∷ rest) → IsUnderway (fill f places) new (children ++ rest)
 filled_next f places old new next rest children node is added becomes u = by u.after u.parts u.stand
   where

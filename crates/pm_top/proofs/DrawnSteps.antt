@@ -13,15 +13,16 @@ use Rattle.pm_logic.specs.Term.{Term}
 use Rattle.pm_logic.specs.Problem.{Literal, Clause}
 use Rattle.pm_logic.specs.View.{clause_of}
 use Rattle.pm_logic.specs.Tableau.{Entry, Node, leaf, inner, Tableau, preorder, depth, depth_below, depth_among}
-use Rattle.pm_logic.specs.Skeleton.{Skeleton, unclosed, closed, extended, Skeletons, no_skeletons, more_skeletons, State, empty, rooted, is_closed_below, filled_below, filled_among, literals_at, leaves, leaves_but, extension, after_step}
-use Rattle.pm_logic.specs.Skeleton as logic
+use Rattle.pm_calculus.specs.Skeleton.{Face, Subgoal, depth_of, reduction, Skeleton, unclosed, closed, extended, Skeletons, no_skeletons, more_skeletons, State, empty, rooted, is_closed_below, filled_below, filled_among, literals_at, leaves, leaves_but, extension, after_step}
+use Rattle.pm_calculus.specs.Skeleton as logic
 use Rattle.pm_logic.proofs.Tableaux.{deepest, deepest-append, deepest-preorder, determined}
-use Rattle.pm_top.specs.Drawn.{IsBare, drawn_below, drawn_among, drawn, step_of, built, NamesClause}
+use Rattle.pm_top.specs.Arguments.{IsBare}
+use Rattle.pm_top.specs.Drawn.{drawn_below, drawn_among, drawn, step_of, built, NamesClause}
 use Rattle.pm_top.specs.Drawing.{DrewClosed, entry_as, pending_at}
 use Rattle.pm_top.specs.declared.drawing.Pending.{Pending}
 use Rattle.pm_top.specs.declared.calculus.Step.{Step}
 use Rattle.pm_top.specs.declared.calculus.Step.TheVariants.{Start, Extend, Reduce}
-use Rattle.pm_top.proofs.Places.{Place, place, closed_by, extended_by, places_among, AreShaped, IsShaped, fill, made_at, filled_places, shaped_filled_among, shaped-leaves, shaped-leaves_but}
+use Rattle.pm_top.proofs.Places.{Place, place, subgoal_at, closed_by, extended_by, places_among, AreShaped, IsShaped, KeepsShape, fill, made_at, filled_places, shaped_filled_among, shaped-leaves, shaped-leaves_but}
 use Rattle.pm_top.proofs.DrawnPlaces.{preorder_places, StandFor, leaves_stand, leaves_but_stand, IsUnderway, all_pending, all_drawn, drew_closed, filled_next, filled_none}
 
 -- ---- a tableau only deepens
@@ -37,19 +38,19 @@ deeper-cond clauses l ls true s t ss ts first others = omega arith
 deeper-cond clauses l ls false s t ss ts first others = omega arith
 
 mutual
-  deeper_below : (clauses : List Clause) (made : ℕ → Skeleton) (l : Literal) (s : Skeleton) (d : ℕ)
-      → depth_below (drawn_below clauses l s) ≤ depth_below (drawn_below clauses l (filled_below made d s))
-  deeper_below clauses made l (unclosed face) d = node_below (drawn_below clauses l (made d))
-  deeper_below clauses made l (closed k) d = omega arith
-  deeper_below clauses made l (extended c trees) d = omega (arith, deeper_among clauses made (literals_at clauses c) trees (d + 1))
+  deeper_below : (clauses : List Clause) (made : Subgoal → Skeleton) (l : Literal) (s : Skeleton) (faces : List Face)
+      → depth_below (drawn_below clauses l s) ≤ depth_below (drawn_below clauses l (filled_below made faces s))
+  deeper_below clauses made l (unclosed face) faces = node_below (drawn_below clauses l (made (record { above = faces; face = face })))
+  deeper_below clauses made l (closed face k) faces = omega arith
+  deeper_below clauses made l (extended face c trees) faces = omega (arith, deeper_among clauses made (literals_at clauses c) trees (faces ++ face ∷ []))
 
-  deeper_among : (clauses : List Clause) (made : ℕ → Skeleton) (ls : List Literal) (ss : Skeletons) (d : ℕ)
-      → depth_among (drawn_among clauses ls ss) ≤ depth_among (drawn_among clauses ls (filled_among made d ss))
-  deeper_among clauses made [] ss d = omega arith
-  deeper_among clauses made (l ∷ ls) no_skeletons d = omega arith
-  deeper_among clauses made (l ∷ ls) (more_skeletons s ss) d =
-      deeper-cond clauses l ls (is_closed_below s) s (filled_below made d s) ss (filled_among made d ss)
-      (deeper_below clauses made l s d) (deeper_among clauses made ls ss d)
+  deeper_among : (clauses : List Clause) (made : Subgoal → Skeleton) (ls : List Literal) (ss : Skeletons) (faces : List Face)
+      → depth_among (drawn_among clauses ls ss) ≤ depth_among (drawn_among clauses ls (filled_among made faces ss))
+  deeper_among clauses made [] ss faces = omega arith
+  deeper_among clauses made (l ∷ ls) no_skeletons faces = omega arith
+  deeper_among clauses made (l ∷ ls) (more_skeletons s ss) faces =
+      deeper-cond clauses l ls (is_closed_below s) s (filled_below made faces s) ss (filled_among made faces ss)
+      (deeper_below clauses made l s faces) (deeper_among clauses made ls ss faces)
 
 deeper_steps : (clauses : List Clause) (root : ℕ) (trees : Skeletons) (steps : List logic.Step)
     → depth (drawn clauses (rooted root trees)) ≤ depth (drawn clauses (fold (after_step clauses) (rooted root trees) steps))
@@ -57,10 +58,10 @@ deeper_steps clauses root trees [] = omega arith
 deeper_steps clauses root trees (logic.start c ∷ steps) = deeper_steps clauses root trees steps
 deeper_steps clauses root trees (logic.extend c k ∷ steps) =
     let made = extension clauses c k in
-    omega (arith, deeper_among clauses made (literals_at clauses root) trees 1, deeper_steps clauses root (filled_among made 1 trees) steps)
+    omega (arith, deeper_among clauses made (literals_at clauses root) trees [], deeper_steps clauses root (filled_among made [] trees) steps)
 deeper_steps clauses root trees (logic.reduce k ∷ steps) =
-    let made : ℕ → Skeleton = λ n. closed k in
-    omega (arith, deeper_among clauses made (literals_at clauses root) trees 1, deeper_steps clauses root (filled_among made 1 trees) steps)
+    let made : Subgoal → Skeleton = reduction k in
+    omega (arith, deeper_among clauses made (literals_at clauses root) trees [], deeper_steps clauses root (filled_among made [] trees) steps)
 
 -- ---- the literals of a clause of the code
 literals_of : (clauses : List Clause) (terms : List Term) (c : ℕ) (rows : Rows) → slice_get clauses c ≡ Some (clause_of terms rows)
@@ -138,20 +139,20 @@ after_start clauses root c left whole entries pending far =
     record { trees = far.trees; leads = far.leads; shaped = far.shaped; underway = far.underway }
 
 -- the selected leaf is made into something else
-filled : (clauses : List Clause) (root : ℕ) (left : List Step) (whole : State) (new : List Entry) (rest : List Pending) (made : ℕ → Skeleton) (trees : Skeletons)
-    → AreShaped clauses (literals_at clauses root) trees → ((l : Literal) (d : ℕ) → IsShaped clauses l (made d))
-    → fold (after_step clauses) (rooted root (filled_among made 1 trees)) (map step_of left) ≡ whole
+filled : (clauses : List Clause) (root : ℕ) (left : List Step) (whole : State) (new : List Entry) (rest : List Pending) (made : Subgoal → Skeleton) (trees : Skeletons)
+    → AreShaped clauses (literals_at clauses root) trees → KeepsShape clauses made
+    → fold (after_step clauses) (rooted root (filled_among made [] trees)) (map step_of left) ≡ whole
     → IsUnderway (fill (made_at clauses made) (places_among clauses [] (literals_at clauses root) trees)) new rest
     → IsSoFar clauses root left whole new rest
 filled clauses root left whole new rest made trees shaped made_shaped leads underway = record {
-  trees = filled_among made 1 trees;
+  trees = filled_among made [] trees;
   leads = leads;
-  shaped = shaped_filled_among clauses made made_shaped (literals_at clauses root) trees 1 shaped;
-  underway = subst (λ (ps : List Place). IsUnderway ps new rest) (sym (filled_places clauses made [] (literals_at clauses root) trees 1 (omega arith) shaped)) underway;
+  shaped = shaped_filled_among clauses made made_shaped (literals_at clauses root) trees [] shaped;
+  underway = subst (λ (ps : List Place). IsUnderway ps new rest) (sym (filled_places clauses made [] (literals_at clauses root) trees shaped)) underway;
 }
 
-shaped_extension : (clauses : List Clause) (c k : ℕ) → c < length clauses → (l : Literal) (d : ℕ) → IsShaped clauses l (extension clauses c k d)
-shaped_extension clauses c k lt l d = (lt, shaped-leaves_but clauses (literals_at clauses c) k d)
+shaped_extension : (clauses : List Clause) (c k : ℕ) → c < length clauses → KeepsShape clauses (extension clauses c k)
+shaped_extension clauses c k lt l at own = (own, lt, shaped-leaves_but clauses (literals_at clauses c) k (depth_of at))
 
 -- an extension at the next literal
 pub after_extend : (clauses : List Clause) (terms : List Term) (root c k : ℕ) (rows : Rows) (left : List Step) (whole : State) (old new : List Entry) (next : Pending) (rest : List Pending)
@@ -166,12 +167,12 @@ after_extend clauses terms root c k rows left whole old new next rest bare lt is
     (filled_next (made_at clauses made) (places_among clauses [] (literals_at clauses root) far.trees) old new next rest children (entry_as (Inner c) next) open_next added
     (λ p stands. record {
       first = place p.above p.literal (extended_by c);
-      others = places_among clauses (p.above ++ p.literal ∷ []) (literals_at clauses c) (leaves_but k (length p.above + 1) (literals_at clauses c));
+      others = places_among clauses (p.above ++ p.literal ∷ []) (literals_at clauses c) (leaves_but k (depth_of (subgoal_at p)) (literals_at clauses c));
       parts = refl;
       done = refl;
       same = ap (λ (e : Entry). record e { kind = Inner c }) stands.node;
-      stand = subst (λ (ls : List Literal). StandFor (places_among clauses (p.above ++ p.literal ∷ []) ls (leaves_but k (length p.above + 1) ls)) children) (sym (literals_of clauses terms c rows is))
-          (leaves_but_stand clauses terms (p.above ++ p.literal ∷ []) (next.depth + 1) k 0 k (length p.above + 1) rows.literals.items
+      stand = subst (λ (ls : List Literal). StandFor (places_among clauses (p.above ++ p.literal ∷ []) ls (leaves_but k (depth_of (subgoal_at p)) ls)) children) (sym (literals_of clauses terms c rows is))
+          (leaves_but_stand clauses terms (p.above ++ p.literal ∷ []) (next.depth + 1) k 0 k (depth_of (subgoal_at p)) rows.literals.items
           (omega (arith, length_push p.above p.literal, ap (λ (e : Entry). e.depth) stands.node))
           (bare_literals clauses c (clause_of terms rows) bare is) (omega arith));
     }) far.underway)
@@ -181,8 +182,8 @@ pub after_reduce : (clauses : List Clause) (root k : ℕ) (left : List Step) (wh
     → next.closed ≡ false → new ≡ old ++ entry_as Leaf next ∷ []
     → IsSoFar clauses root (Reduce k ∷ left) whole old (next ∷ rest) → IsSoFar clauses root left whole new rest
 after_reduce clauses root k left whole old new next rest open_next added far =
-    let made : ℕ → Skeleton = λ n. closed k in
-    filled clauses root left whole new rest made far.trees far.shaped (λ l d. tt) far.leads
+    let made : Subgoal → Skeleton = reduction k in
+    filled clauses root left whole new rest made far.trees far.shaped (λ l at own. own) far.leads
     (filled_next (made_at clauses made) (places_among clauses [] (literals_at clauses root) far.trees) old new next rest [] (entry_as Leaf next) open_next added
     (λ p stands. record {
       first = place p.above p.literal (closed_by k);
@@ -194,9 +195,9 @@ after_reduce clauses root k left whole old new next rest open_next added far =
     }) far.underway)
 
 -- where nothing is pending a step changes nothing
-filled_all : (clauses : List Clause) (root : ℕ) (left : List Step) (whole : State) (entries : List Entry) (made : ℕ → Skeleton) (trees : Skeletons)
-    → AreShaped clauses (literals_at clauses root) trees → ((l : Literal) (d : ℕ) → IsShaped clauses l (made d))
-    → fold (after_step clauses) (rooted root (filled_among made 1 trees)) (map step_of left) ≡ whole
+filled_all : (clauses : List Clause) (root : ℕ) (left : List Step) (whole : State) (entries : List Entry) (made : Subgoal → Skeleton) (trees : Skeletons)
+    → AreShaped clauses (literals_at clauses root) trees → KeepsShape clauses made
+    → fold (after_step clauses) (rooted root (filled_among made [] trees)) (map step_of left) ≡ whole
     → IsUnderway (places_among clauses [] (literals_at clauses root) trees) entries []
     → IsSoFar clauses root left whole entries []
 filled_all clauses root left whole entries made trees shaped made_shaped leads underway =
@@ -209,7 +210,7 @@ after_all clauses root (Start c) left whole entries names far = after_start clau
 after_all clauses root (Extend c k) left whole entries names far =
     filled_all clauses root left whole entries (extension clauses c k) far.trees far.shaped (shaped_extension clauses c k names) far.leads far.underway
 after_all clauses root (Reduce k) left whole entries names far =
-    filled_all clauses root left whole entries (λ n. closed k) far.trees far.shaped (λ l d. tt) far.leads far.underway
+    filled_all clauses root left whole entries (reduction k) far.trees far.shaped (λ l at own. own) far.leads far.underway
 
 pub after_none : (clauses : List Clause) (root : ℕ) (step : Step) (left : List Step) (whole : State) (entries : List Entry) (pending : List Pending)
     → NamesClause (length clauses) step → pending ≡ []

@@ -10,12 +10,14 @@ use Rattle.std.proofs.lemmas.List.Elements.{All-head, All-tail, recursion_from_A
 use Rattle.pm_logic.specs.Term.{var, Term}
 use Rattle.pm_logic.specs.Problem.{Literal, Clause, Problem}
 use Rattle.pm_logic.specs.Tableau.{Node, leaf, inner, Nodes, no_nodes, more_nodes, Entry, preorder_of, preorder_among}
-use Rattle.pm_logic.specs.Substitution.{put, put_in_literal, put_below, put_in_nodes, IsInstance, AreComplementary}
-use Rattle.pm_logic.specs.Connection.{literal_on, literals_on, IsFamily, HasFamilies, HaveFamilies}
-use Rattle.pm_logic.specs.Skeleton.{Skeleton, unclosed, closed, extended, Skeletons, no_skeletons, more_skeletons, literals_at}
-use Rattle.pm_logic.specs.Choices.{at_depth, FitsBelow, FitAmong, variables}
-use Rattle.pm_logic.proofs.ListsToTrees.{tall_below, tall_among}
-use Rattle.pm_top.specs.Drawn.{IsBare, HasNoArguments, drawn_below, drawn_among}
+use Rattle.pm_calculus.specs.Substitution.{put, put_in_literal, each_below, each_among, IsInstance, AreComplementary}
+use Rattle.pm_calculus.specs.Connection.{literal_on, literals_on, IsFamily, HasFamilies, HaveFamilies}
+use Rattle.pm_calculus.specs.Skeleton.{Skeleton, unclosed, closed, extended, Skeletons, no_skeletons, more_skeletons, literals_at}
+use Rattle.pm_calculus.specs.Choices.{at_depth, FitsBelow, FitAmong}
+use Rattle.pm_logic.specs.Variables.{variables}
+use Rattle.pm_calculus.proofs.Sizes.{tall_below, tall_among}
+use Rattle.pm_top.specs.Arguments.{IsBare, HasNoArguments}
+use Rattle.pm_top.specs.Drawn.{drawn_below, drawn_among}
 use Rattle.pm_top.proofs.Places.{Place, Mark, open_leaf, closed_by, extended_by, places_below, places_among, IsShaped, AreShaped, all-append, all-parts}
 
 -- ---- literals without arguments
@@ -79,10 +81,10 @@ mutual
       → literal_on n ≡ l → n ≡ drawn_below clauses l s
   drawn_is clauses bare above (unclosed face) (leaf m) l f h is = ap leaf is
   drawn_is clauses bare above (unclosed face) (inner m c children) l f h is = absurd f
-  drawn_is clauses bare above (closed k) (leaf m) l f h is = ap leaf is
-  drawn_is clauses bare above (closed k) (inner m c children) l f h is = absurd f
-  drawn_is clauses bare above (extended d trees) (leaf m) l f h is = absurd f
-  drawn_is clauses bare above (extended d trees) (inner m c children) l f h is =
+  drawn_is clauses bare above (closed face k) (leaf m) l f h is = ap leaf is
+  drawn_is clauses bare above (closed face k) (inner m c children) l f h is = absurd f
+  drawn_is clauses bare above (extended face d trees) (leaf m) l f h is = absurd f
+  drawn_is clauses bare above (extended face d trees) (inner m c children) l f h is =
       let rest = drawn_are clauses bare (above ++ m ∷ []) trees children (literals_at clauses d) f.1 h.1
       (family_is clauses c children (bare c) h.0 ∙ ap (literals_at clauses) (sym f.0)) in
       ap (λ (k : Literal). inner k c children) is ∙ ap₂ (λ (e : ℕ) ns. inner l e ns) (sym f.0) rest
@@ -102,8 +104,8 @@ mutual
 -- ---- what was drawn has the families
 literal-drawn : (clauses : List Clause) (l : Literal) (s : Skeleton) → literal_on (drawn_below clauses l s) ≡ l
 literal-drawn clauses l (unclosed face) = refl
-literal-drawn clauses l (closed k) = refl
-literal-drawn clauses l (extended c trees) = refl
+literal-drawn clauses l (closed face k) = refl
+literal-drawn clauses l (extended face c trees) = refl
 
 pub literals-drawn : (clauses : List Clause) (ls : List Literal) (ss : Skeletons) → AreShaped clauses ls ss → literals_on (drawn_among clauses ls ss) ≡ ls
 literals-drawn clauses [] no_skeletons h = refl
@@ -114,10 +116,10 @@ literals-drawn clauses (l ∷ ls) (more_skeletons s ss) h = ap₂ (λ (m : Liter
 mutual
   drawn_has : (clauses : List Clause) → AllAreArgless clauses → (l : Literal) (s : Skeleton) → IsShaped clauses l s → HasFamilies clauses (drawn_below clauses l s)
   drawn_has clauses bare l (unclosed face) h = tt
-  drawn_has clauses bare l (closed k) h = tt
-  drawn_has clauses bare l (extended c trees) h = (
-    is_family clauses c (drawn_among clauses (literals_at clauses c) trees) (bare c) h.0 (literals-drawn clauses (literals_at clauses c) trees h.1),
-    drawn_have clauses bare (literals_at clauses c) trees h.1,
+  drawn_has clauses bare l (closed face k) h = tt
+  drawn_has clauses bare l (extended face c trees) h = (
+    is_family clauses c (drawn_among clauses (literals_at clauses c) trees) (bare c) h.1 (literals-drawn clauses (literals_at clauses c) trees h.2),
+    drawn_have clauses bare (literals_at clauses c) trees h.2,
   )
 
   pub drawn_have : (clauses : List Clause) → AllAreArgless clauses → (ls : List Literal) (ss : Skeletons) → AreShaped clauses ls ss → HaveFamilies clauses (drawn_among clauses ls ss)
@@ -138,8 +140,8 @@ mutual
   places_fit : (clauses : List Clause) (above : List Literal) (l : Literal) (s : Skeleton) → FitsBelow above s (drawn_below clauses l s)
       → AllByRecursion FitsAt (places_below clauses above l s)
   places_fit clauses above l (unclosed face) h = (tt, tt)
-  places_fit clauses above l (closed k) h = (h, tt)
-  places_fit clauses above l (extended c trees) h = (tt, places_fit_among clauses (above ++ l ∷ []) (literals_at clauses c) trees h.1)
+  places_fit clauses above l (closed face k) h = (h, tt)
+  places_fit clauses above l (extended face c trees) h = (tt, places_fit_among clauses (above ++ l ∷ []) (literals_at clauses c) trees h.1)
 
   pub places_fit_among : (clauses : List Clause) (above ls : List Literal) (ss : Skeletons) → FitAmong above ss (drawn_among clauses ls ss)
       → AllByRecursion FitsAt (places_among clauses above ls ss)
@@ -153,8 +155,8 @@ mutual
   fits_places : (clauses : List Clause) (above : List Literal) (l : Literal) (s : Skeleton) → IsShaped clauses l s → AllByRecursion FitsAt (places_below clauses above l s)
       → FitsBelow above s (drawn_below clauses l s)
   fits_places clauses above l (unclosed face) shaped h = tt
-  fits_places clauses above l (closed k) shaped h = h.0
-  fits_places clauses above l (extended c trees) shaped h = (refl, fit_places clauses (above ++ l ∷ []) (literals_at clauses c) trees shaped.1 h.1)
+  fits_places clauses above l (closed face k) shaped h = h.0
+  fits_places clauses above l (extended face c trees) shaped h = (refl, fit_places clauses (above ++ l ∷ []) (literals_at clauses c) trees shaped.2 h.1)
 
   pub fit_places : (clauses : List Clause) (above ls : List Literal) (ss : Skeletons) → AreShaped clauses ls ss → AllByRecursion FitsAt (places_among clauses above ls ss)
       → FitAmong above ss (drawn_among clauses ls ss)
@@ -166,42 +168,42 @@ mutual
       (fits_places clauses above l s shaped.0 parts.0, fit_places clauses above ls ss shaped.1 parts.1)
 
 -- ---- it is as deep as its deepest place
-abbrev pub IsWithin : ℕ → Place → Type 0
-IsWithin bound p = length p.above + 1 ≤ bound
+abbrev pub LiesWithin : ℕ → Place → Type 0
+LiesWithin bound p = length p.above + 1 ≤ bound
 
 mutual
   places_within : (clauses : List Clause) (bound : ℕ) (above : List Literal) (l : Literal) (s : Skeleton) → length above + tall_below s ≤ bound
-      → AllByRecursion (IsWithin bound) (places_below clauses above l s)
+      → AllByRecursion (LiesWithin bound) (places_below clauses above l s)
   places_within clauses bound above l (unclosed face) h = (h, tt)
-  places_within clauses bound above l (closed k) h = (h, tt)
-  places_within clauses bound above l (extended c trees) h =
+  places_within clauses bound above l (closed face k) h = (h, tt)
+  places_within clauses bound above l (extended face c trees) h =
       (omega (arith, h), places_within_among clauses bound (above ++ l ∷ []) (literals_at clauses c) trees (omega (arith, h, length_push above l)))
 
   pub places_within_among : (clauses : List Clause) (bound : ℕ) (above ls : List Literal) (ss : Skeletons) → length above + tall_among ss ≤ bound
-      → AllByRecursion (IsWithin bound) (places_among clauses above ls ss)
+      → AllByRecursion (LiesWithin bound) (places_among clauses above ls ss)
   places_within_among clauses bound above [] ss h = tt
   places_within_among clauses bound above (l ∷ ls) no_skeletons h = tt
   places_within_among clauses bound above (l ∷ ls) (more_skeletons s ss) h =
-      all-append (IsWithin bound) (places_below clauses above l s) (places_among clauses above ls ss)
+      all-append (LiesWithin bound) (places_below clauses above l s) (places_among clauses above ls ss)
       (places_within clauses bound above l s (omega (arith, h))) (places_within_among clauses bound above ls ss (omega (arith, h)))
 
 mutual
   within_places : (clauses : List Clause) (bound : ℕ) (above : List Literal) (l : Literal) (s : Skeleton) → IsShaped clauses l s
-      → AllByRecursion (IsWithin bound) (places_below clauses above l s) → length above + tall_below s ≤ bound
+      → AllByRecursion (LiesWithin bound) (places_below clauses above l s) → length above + tall_below s ≤ bound
   within_places clauses bound above l (unclosed face) shaped h = h.0
-  within_places clauses bound above l (closed k) shaped h = h.0
-  within_places clauses bound above l (extended c trees) shaped h =
+  within_places clauses bound above l (closed face k) shaped h = h.0
+  within_places clauses bound above l (extended face c trees) shaped h =
       let own : length above + 1 ≤ bound = h.0 in
-      let rest = within_places_among clauses bound (above ++ l ∷ []) (literals_at clauses c) trees shaped.1 (omega (arith, own, length_push above l)) h.1 in
+      let rest = within_places_among clauses bound (above ++ l ∷ []) (literals_at clauses c) trees shaped.2 (omega (arith, own, length_push above l)) h.1 in
       omega (arith, rest, length_push above l)
 
   pub within_places_among : (clauses : List Clause) (bound : ℕ) (above ls : List Literal) (ss : Skeletons) → AreShaped clauses ls ss → length above ≤ bound
-      → AllByRecursion (IsWithin bound) (places_among clauses above ls ss) → length above + tall_among ss ≤ bound
+      → AllByRecursion (LiesWithin bound) (places_among clauses above ls ss) → length above + tall_among ss ≤ bound
   within_places_among clauses bound above [] no_skeletons shaped le h = omega (arith, le)
   within_places_among clauses bound above [] (more_skeletons s ss) shaped le h = absurd shaped
   within_places_among clauses bound above (l ∷ ls) no_skeletons shaped le h = absurd shaped
   within_places_among clauses bound above (l ∷ ls) (more_skeletons s ss) shaped le h =
-      let parts = all-parts (IsWithin bound) (places_below clauses above l s) (places_among clauses above ls ss) h in
+      let parts = all-parts (LiesWithin bound) (places_below clauses above l s) (places_among clauses above ls ss) h in
       let first = within_places clauses bound above l s shaped.0 parts.0 in
       let others = within_places_among clauses bound above ls ss shaped.1 le parts.1 in
       omega (arith, first, others)
@@ -214,14 +216,14 @@ no_variables : (l : Literal) → IsArgless l → flat_map variables l.args ≡ [
 no_variables l bare = ap (flat_map variables) bare
 
 mutual
-  put-drawn : (terms : List Term) (clauses : List Clause) → AllAreArgless clauses → (l : Literal) (s : Skeleton) → IsArgless l → put_below terms (drawn_below clauses l s) ≡ drawn_below clauses l s
+  put-drawn : (terms : List Term) (clauses : List Clause) → AllAreArgless clauses → (l : Literal) (s : Skeleton) → IsArgless l → each_below (put_in_literal terms) (drawn_below clauses l s) ≡ drawn_below clauses l s
   put-drawn terms clauses bare l (unclosed face) own = ap leaf (put-bare terms l own)
-  put-drawn terms clauses bare l (closed k) own = ap leaf (put-bare terms l own)
-  put-drawn terms clauses bare l (extended c trees) own =
+  put-drawn terms clauses bare l (closed face k) own = ap leaf (put-bare terms l own)
+  put-drawn terms clauses bare l (extended face c trees) own =
       ap₂ (λ (m : Literal) ns. inner m c ns) (put-bare terms l own) (put-drawn_among terms clauses bare (literals_at clauses c) trees (bare c))
 
   pub put-drawn_among : (terms : List Term) (clauses : List Clause) → AllAreArgless clauses → (ls : List Literal) (ss : Skeletons) → AreArgless ls
-      → put_in_nodes terms (drawn_among clauses ls ss) ≡ drawn_among clauses ls ss
+      → each_among (put_in_literal terms) (drawn_among clauses ls ss) ≡ drawn_among clauses ls ss
   put-drawn_among terms clauses bare [] ss own = refl
   put-drawn_among terms clauses bare (l ∷ ls) no_skeletons own = refl
   put-drawn_among terms clauses bare (l ∷ ls) (more_skeletons s ss) own =
@@ -233,8 +235,8 @@ both_empty xs ys p q = ap₂ (λ (a b : List ℕ). a ++ b) p q
 mutual
   none_drawn : (clauses : List Clause) → AllAreArgless clauses → (d : ℕ) (l : Literal) (s : Skeleton) → IsArgless l → flat_map variables_of (preorder_of d (drawn_below clauses l s)) ≡ []
   none_drawn clauses bare d l (unclosed face) own = both_empty (flat_map variables l.args) [] (no_variables l own) refl
-  none_drawn clauses bare d l (closed k) own = both_empty (flat_map variables l.args) [] (no_variables l own) refl
-  none_drawn clauses bare d l (extended c trees) own =
+  none_drawn clauses bare d l (closed face k) own = both_empty (flat_map variables l.args) [] (no_variables l own) refl
+  none_drawn clauses bare d l (extended face c trees) own =
       both_empty (flat_map variables l.args) (flat_map variables_of (preorder_among (d + 1) (drawn_among clauses (literals_at clauses c) trees)))
       (no_variables l own) (none_drawn_among clauses bare (d + 1) (literals_at clauses c) trees (bare c))
 

@@ -1,5 +1,5 @@
 -- The unclosed places as goals, and the alternatives of the first of them.
-use Rattle.std.proofs.Common.{◌≡◌, ℕ, zero, suc, ◌+◌, ◌-◌, Bool, true, false, cond, not, ◌&&◌, ◌==◌, List, [], ◌∷◌, ◌++◌, length, map, Option, Some, None, slice_get, refl, ◌∙◌, ap, ap₂, arith}
+use Rattle.std.proofs.Common.{◌≡◌, ℕ, zero, suc, ◌+◌, ◌-◌, Bool, true, false, cond, not, ◌&&◌, ◌==◌, List, [], ◌∷◌, ◌++◌, length, map, Option, Some, None, slice_get, refl, sym, ◌∙◌, ap, ap₂, arith}
 use Rattle.std.specs.Prelude.{filter}
 use Rattle.std.specs.Bool.{beq}
 use Rattle.std.specs.List.{enumerate_from, flat_map, range_with_len, remove}
@@ -7,15 +7,18 @@ use Rattle.std.specs.Option.{option_map_or}
 use Rattle.std.proofs.lemmas.Bool.Decides.{nat_tests}
 use Rattle.std.proofs.lemmas.List.{length-map, map-append}
 use Rattle.std.proofs.lemmas.List.Concat.{flat_map-cons}
+use Rattle.std.proofs.lemmas.Simd.{map-map}
 use Rattle.std.proofs.lemmas.List.Elements.{filter-append}
 use Rattle.pm_logic.specs.Lists.{places}
 use Rattle.pm_logic.specs.Problem.{Literal, Clause, Problem}
-use Rattle.pm_logic.specs.Skeleton as logic
-use Rattle.pm_logic.specs.Skeleton.{Skeletons, no_skeletons, more_skeletons, leaves, leaves_but, literals_at, is_opposite}
+use Rattle.pm_calculus.specs.Skeleton as logic
+use Rattle.pm_calculus.specs.Skeleton.{Skeletons, no_skeletons, more_skeletons, depth_of, leaves, leaves_but, literals_at}
+use Rattle.pm_calculus.specs.Alternatives as calculus
+use Rattle.pm_calculus.specs.Alternatives.{reductions as logic_reductions, extensions as logic_extensions, has_face, opposite, heads_from, extension_by}
 use Rattle.pm_top.specs.declared.calculus.Step.TheVariants.{Extend, Reduce}
 use Rattle.pm_top.specs.Goals.{Face, Head, Goal, Step, face_of, faces_of, clause_faces, are_opposite, clause_heads, reductions, opposite_heads, goals_below}
 use Rattle.pm_top.specs.Drawn.{step_of}
-use Rattle.pm_top.proofs.Places.{Place, is_open, first_open, fill, places_among}
+use Rattle.pm_top.proofs.Places.{Place, is_open, first_open, fill, places_among, subgoal_at}
 
 abbrev pub goal_at : Place → Goal
 goal_at p = record { above = map face_of p.above; leaf = face_of p.literal }
@@ -92,21 +95,21 @@ reductions_from : (n : ℕ) (xs : List Face) → map step_of (map (λ (q : ℕ �
 reductions_from n [] = refl
 reductions_from n (x ∷ xs) = ap (λ (ss : List logic.Step). logic.reduce n ∷ ss) (reductions_from (n + 1) xs)
 
-pub reductions_are : (p : Place) → map step_of (reductions (goal_at p)) ≡ logic.reductions (length p.above + 1)
+pub reductions_are : (p : Place) → map step_of (reductions (goal_at p)) ≡ logic_reductions (subgoal_at p)
 reductions_are p =
-    let counted : length (map face_of p.above) ≡ length p.above + 1 - 1 = omega (arith, length-map p.above face_of) in
+    let counted : length (map face_of p.above) ≡ depth_of (subgoal_at p) - 1 = omega (arith, length-map p.above face_of, length-map p.above logic.face_of) in
     reductions_from 1 (map face_of p.above) ∙ ap (λ n. map logic.reduce (range_with_len 1 n)) counted
 
 same_test : (a b : ℕ) → (a == b) ≡ (b == a)
 same_test a b = grind (arith, nat_tests)
 
-signs : (a b : Bool) → not (beq a b) ≡ cond b (not a) a
+signs : (a b : Bool) → not (beq a b) ≡ cond (not b) a (not a)
 signs true true = refl
 signs true false = refl
 signs false true = refl
 signs false false = refl
 
-opposite_is : (l m : Literal) → are_opposite (face_of m) (face_of l) ≡ is_opposite (logic.face_of l) m
+opposite_is : (l m : Literal) → are_opposite (face_of m) (face_of l) ≡ has_face (opposite (logic.face_of l)) m
 opposite_is l m = ap₂ (λ a b. a && b) (signs m.positive l.positive) (same_test m.predicate l.predicate)
 
 abbrev extend_by : Face → List Head → List logic.Step
@@ -122,14 +125,14 @@ extend-append leaf xs ys =
 
 clause_extensions : (l : Literal) (c i : ℕ) (ls : List Literal)
     → extend_by (face_of l) (map (λ (q : ℕ × Face). record { clause = c; literal = q.0; face = q.1 }) (enumerate_from i (map face_of ls)))
-    ≡ map (logic.extend c) (places (is_opposite (logic.face_of l)) i ls)
+    ≡ map (logic.extend c) (places (has_face (opposite (logic.face_of l))) i ls)
 clause_extensions l c i [] = refl
 clause_extensions l c i (m ∷ ms) =
     let heads = map (λ (q : ℕ × Face). record { clause = c; literal = q.0; face = q.1 }) (enumerate_from (i + 1) (map face_of ms)) in
     let head : Head = record { clause = c; literal = i; face = face_of m } in
-    let later = places (is_opposite (logic.face_of l)) (i + 1) ms in
+    let later = places (has_face (opposite (logic.face_of l))) (i + 1) ms in
     ap (λ b. map step_of (map (λ (h : Head). Extend h.clause h.literal) (cond b (head ∷ filter (λ (h : Head). are_opposite h.face (face_of l)) heads) (filter (λ (h : Head). are_opposite h.face (face_of l)) heads)))) (opposite_is l m)
-    ∙ by (is_opposite (logic.face_of l) m) heads later (clause_extensions l c (i + 1) ms)
+    ∙ by (has_face (opposite (logic.face_of l)) m) heads later (clause_extensions l c (i + 1) ms)
   where
     by : (b : Bool) (heads : List Head) (later : List ℕ) → extend_by (face_of l) heads ≡ map (logic.extend c) later
         → map step_of (map (λ (h : Head). Extend h.clause h.literal) (cond b (record { clause = c; literal = i; face = face_of m } ∷ filter (λ (h : Head). are_opposite h.face (face_of l)) heads) (filter (λ (h : Head). are_opposite h.face (face_of l)) heads)))
@@ -138,14 +141,17 @@ clause_extensions l c i (m ∷ ms) =
     by false heads later rest = rest
 
 extensions_from : (l : Literal) (from : ℕ) (clauses : List Clause)
-    → extend_by (face_of l) (flat_map clause_heads (enumerate_from from (map faces_of clauses))) ≡ logic.extensions (logic.face_of l) from clauses
+    → extend_by (face_of l) (flat_map clause_heads (enumerate_from from (map faces_of clauses))) ≡ map extension_by (heads_from (opposite (logic.face_of l)) from clauses)
 extensions_from l from [] = refl
 extensions_from l from (c ∷ cs) =
     let others = flat_map clause_heads (enumerate_from (from + 1) (map faces_of cs)) in
+    let head : ℕ → calculus.Head = λ j. record { clause = from; literal = j } in
+    let own = places (has_face (opposite (logic.face_of l))) 0 c.literals in
     ap (extend_by (face_of l)) (flat_map-cons clause_heads (from, faces_of c) (enumerate_from (from + 1) (map faces_of cs)))
     ∙ extend-append (face_of l) (clause_heads (from, faces_of c)) others
-    ∙ ap₂ (λ (xs ys : List logic.Step). xs ++ ys) (clause_extensions l from 0 c.literals) (extensions_from l (from + 1) cs)
+    ∙ ap₂ (λ (xs ys : List logic.Step). xs ++ ys) (clause_extensions l from 0 c.literals ∙ sym (map-map extension_by head own)) (extensions_from l (from + 1) cs)
+    ∙ sym (map-append extension_by (map head own) (heads_from (opposite (logic.face_of l)) (from + 1) cs))
 
 pub extensions_are : (problem : Problem) (l : Literal)
-    → map step_of (map (λ (h : Head). Extend h.clause h.literal) (opposite_heads problem (face_of l))) ≡ logic.extensions (logic.face_of l) 0 problem.clauses
+    → map step_of (map (λ (h : Head). Extend h.clause h.literal) (opposite_heads problem (face_of l))) ≡ logic_extensions (logic.face_of l) problem.clauses
 extensions_are problem l = extensions_from l 0 problem.clauses

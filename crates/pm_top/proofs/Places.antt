@@ -1,9 +1,9 @@
 -- The nodes of what choices built, in pre-order, each with the literals above it on its branch.
-use Rattle.std.proofs.Common.{◌≡◌, ℕ, zero, suc, ◌+◌, ◌<◌, Bool, true, false, cond, not, ◌&&◌, ◌||◌, List, [], ◌∷◌, ◌++◌, length, Option, Some, None, option_map, refl, sym, ◌∙◌, ap, ap₂, subst, arith, append_assoc}
+use Rattle.std.proofs.Common.{◌≡◌, ℕ, zero, suc, ◌+◌, ◌<◌, Bool, true, false, cond, not, ◌&&◌, ◌||◌, List, [], ◌∷◌, ◌++◌, length, map, Option, Some, None, option_map, refl, sym, ◌∙◌, ap, ap₂, subst, arith, append_assoc}
 use Rattle.std.specs.List.{AllByRecursion}
-use Rattle.std.proofs.lemmas.List.{append-nil, length_push}
+use Rattle.std.proofs.lemmas.List.{append-nil, map_push}
 use Rattle.pm_logic.specs.Problem.{Literal, Clause}
-use Rattle.pm_logic.specs.Skeleton.{face_of, Skeleton, unclosed, closed, extended, Skeletons, no_skeletons, more_skeletons, Subgoal, is_closed_below, are_closed_below, selected_below, selected_among, filled_below, filled_among, leaves, leaves_but, literals_at}
+use Rattle.pm_calculus.specs.Skeleton.{Face, face_of, Skeleton, unclosed, closed, extended, Skeletons, no_skeletons, more_skeletons, Subgoal, is_closed_below, are_closed_below, selected_below, selected_among, filled_below, filled_among, leaves, leaves_but, literals_at}
 
 pub data Mark : Type 0 where
   open_leaf : Mark
@@ -21,20 +21,21 @@ place above literal mark = record { above = above; literal = literal; mark = mar
 abbrev mutual
   pub places_below : List Clause → List Literal → Literal → Skeleton → List Place
   places_below clauses above l (unclosed face) = place above l open_leaf ∷ []
-  places_below clauses above l (closed k) = place above l (closed_by k) ∷ []
-  places_below clauses above l (extended c trees) = place above l (extended_by c) ∷ places_among clauses (above ++ l ∷ []) (literals_at clauses c) trees
+  places_below clauses above l (closed face k) = place above l (closed_by k) ∷ []
+  places_below clauses above l (extended face c trees) = place above l (extended_by c) ∷ places_among clauses (above ++ l ∷ []) (literals_at clauses c) trees
 
   pub places_among : List Clause → List Literal → List Literal → Skeletons → List Place
   places_among clauses above [] trees = []
   places_among clauses above (l ∷ ls) no_skeletons = []
   places_among clauses above (l ∷ ls) (more_skeletons s ss) = places_below clauses above l s ++ places_among clauses above ls ss
 
--- the trees are as many as their clauses have literals, and unclosed leaves show these literals' faces
+-- the trees are as many as their clauses have literals, and show these literals' faces
 abbrev mutual
   pub IsShaped : List Clause → Literal → Skeleton → Type 0
   IsShaped clauses l (unclosed face) = face ≡ face_of l
-  IsShaped clauses l (closed k) = Unit {0}
-  IsShaped clauses l (extended c trees) = (c < length clauses) × AreShaped clauses (literals_at clauses c) trees
+  IsShaped clauses l (closed face k) = face ≡ face_of l
+  IsShaped clauses l (extended face c trees) =
+      (face ≡ face_of l) × (c < length clauses) × AreShaped clauses (literals_at clauses c) trees
 
   pub AreShaped : List Clause → List Literal → Skeletons → Type 0
   AreShaped clauses [] no_skeletons = Unit {0}
@@ -103,8 +104,8 @@ mutual
   pub open_below : (clauses : List Clause) (above : List Literal) (l : Literal) (s : Skeleton) → IsShaped clauses l s
       → has_open (places_below clauses above l s) ≡ not (is_closed_below s)
   open_below clauses above l (unclosed face) h = refl
-  open_below clauses above l (closed k) h = refl
-  open_below clauses above l (extended c trees) h = open_among clauses (above ++ l ∷ []) (literals_at clauses c) trees h.1
+  open_below clauses above l (closed face k) h = refl
+  open_below clauses above l (extended face c trees) h = open_among clauses (above ++ l ∷ []) (literals_at clauses c) trees h.2
 
   pub open_among : (clauses : List Clause) (above ls : List Literal) (ss : Skeletons) → AreShaped clauses ls ss
       → has_open (places_among clauses above ls ss) ≡ not (are_closed_below ss)
@@ -118,7 +119,7 @@ mutual
 
 -- ---- the selected leaf is the first unclosed place
 abbrev pub subgoal_at : Place → Subgoal
-subgoal_at p = record { depth = length p.above + 1; face = face_of p.literal }
+subgoal_at p = record { above = map face_of p.above; face = face_of p.literal }
 
 cond-map : {A B : Type 0} (f : A → B) (b : Bool) (x y : Option A) → cond b (option_map f x) (option_map f y) ≡ option_map f (cond b x y)
 cond-map f true x y = refl
@@ -128,31 +129,36 @@ cond-not : {A : Type 0} (b : Bool) (x y : A) → cond b x y ≡ cond (not b) y x
 cond-not true x y = refl
 cond-not false x y = refl
 
-mutual
-  selected_place : (clauses : List Clause) (above : List Literal) (l : Literal) (s : Skeleton) (d : ℕ) → d ≡ length above + 1 → IsShaped clauses l s
-      → selected_below d s ≡ option_map subgoal_at (first_open (places_below clauses above l s))
-  selected_place clauses above l (unclosed face) d is h = ap₂ (λ depth shown. Some (record { depth = depth; face = shown })) is h
-  selected_place clauses above l (closed k) d is h = refl
-  selected_place clauses above l (extended c trees) d is h =
-      selected_place_among clauses (above ++ l ∷ []) (literals_at clauses c) trees (d + 1) (omega (arith, is, length_push above l)) h.1
+-- the faces of a branch that goes on with a literal of this face
+faces_push : (above : List Literal) (l : Literal) (face : Face) → face ≡ face_of l → map face_of above ++ face ∷ [] ≡ map face_of (above ++ l ∷ [])
+faces_push above l face is = ap (λ f. map face_of above ++ f ∷ []) is ∙ sym (map_push face_of above l)
 
-  pub selected_place_among : (clauses : List Clause) (above ls : List Literal) (ss : Skeletons) (d : ℕ) → d ≡ length above + 1 → AreShaped clauses ls ss
-      → selected_among d ss ≡ option_map subgoal_at (first_open (places_among clauses above ls ss))
-  selected_place_among clauses above [] no_skeletons d is h = refl
-  selected_place_among clauses above [] (more_skeletons s ss) d is h = absurd h
-  selected_place_among clauses above (l ∷ ls) no_skeletons d is h = absurd h
-  selected_place_among clauses above (l ∷ ls) (more_skeletons s ss) d is h =
+mutual
+  selected_place : (clauses : List Clause) (above : List Literal) (l : Literal) (s : Skeleton) → IsShaped clauses l s
+      → selected_below (map face_of above) s ≡ option_map subgoal_at (first_open (places_below clauses above l s))
+  selected_place clauses above l (unclosed face) h = ap (λ shown. Some (record { above = map face_of above; face = shown })) h
+  selected_place clauses above l (closed face k) h = refl
+  selected_place clauses above l (extended face c trees) h =
+      ap (λ faces. selected_among faces trees) (faces_push above l face h.0)
+      ∙ selected_place_among clauses (above ++ l ∷ []) (literals_at clauses c) trees h.2
+
+  pub selected_place_among : (clauses : List Clause) (above ls : List Literal) (ss : Skeletons) → AreShaped clauses ls ss
+      → selected_among (map face_of above) ss ≡ option_map subgoal_at (first_open (places_among clauses above ls ss))
+  selected_place_among clauses above [] no_skeletons h = refl
+  selected_place_among clauses above [] (more_skeletons s ss) h = absurd h
+  selected_place_among clauses above (l ∷ ls) no_skeletons h = absurd h
+  selected_place_among clauses above (l ∷ ls) (more_skeletons s ss) h =
       let here = places_below clauses above l s in
       let later = places_among clauses above ls ss in
-      ap₂ (λ x y. cond (is_closed_below s) x y) (selected_place_among clauses above ls ss d is h.1) (selected_place clauses above l s d is h.0)
+      ap₂ (λ x y. cond (is_closed_below s) x y) (selected_place_among clauses above ls ss h.1) (selected_place clauses above l s h.0)
       ∙ cond-not (is_closed_below s) (option_map subgoal_at (first_open later)) (option_map subgoal_at (first_open here))
       ∙ ap (λ b. cond b (option_map subgoal_at (first_open here)) (option_map subgoal_at (first_open later))) (sym (open_below clauses above l s h.0))
       ∙ cond-map subgoal_at (has_open here) (first_open here) (first_open later)
       ∙ ap (option_map subgoal_at) (sym (first-append here later))
 
 -- ---- filling the selected leaf fills the first unclosed place
-abbrev pub made_at : List Clause → (ℕ → Skeleton) → Place → List Place
-made_at clauses made p = places_below clauses p.above p.literal (made (length p.above + 1))
+abbrev pub made_at : List Clause → (Subgoal → Skeleton) → Place → List Place
+made_at clauses made p = places_below clauses p.above p.literal (made (subgoal_at p))
 
 places-cond : (clauses : List Clause) (above ls : List Literal) (l : Literal) (b : Bool) (s t : Skeleton) (ss ts : Skeletons)
     → places_among clauses above (l ∷ ls) (cond b (more_skeletons s ts) (more_skeletons t ss))
@@ -161,26 +167,28 @@ places-cond clauses above ls l true s t ss ts = refl
 places-cond clauses above ls l false s t ss ts = refl
 
 mutual
-  filled_place : (clauses : List Clause) (made : ℕ → Skeleton) (above : List Literal) (l : Literal) (s : Skeleton) (d : ℕ) → d ≡ length above + 1 → IsShaped clauses l s
-      → places_below clauses above l (filled_below made d s) ≡ fill (made_at clauses made) (places_below clauses above l s)
-  filled_place clauses made above l (unclosed face) d is h =
-      ap (λ n. places_below clauses above l (made n)) is ∙ sym (append-nil (places_below clauses above l (made (length above + 1))))
-  filled_place clauses made above l (closed k) d is h = refl
-  filled_place clauses made above l (extended c trees) d is h =
+  filled_place : (clauses : List Clause) (made : Subgoal → Skeleton) (above : List Literal) (l : Literal) (s : Skeleton) → IsShaped clauses l s
+      → places_below clauses above l (filled_below made (map face_of above) s) ≡ fill (made_at clauses made) (places_below clauses above l s)
+  filled_place clauses made above l (unclosed face) h =
+      ap (λ shown. places_below clauses above l (made (record { above = map face_of above; face = shown }))) h
+      ∙ sym (append-nil (places_below clauses above l (made (record { above = map face_of above; face = face_of l }))))
+  filled_place clauses made above l (closed face k) h = refl
+  filled_place clauses made above l (extended face c trees) h =
       ap (λ (ps : List Place). place above l (extended_by c) ∷ ps)
-      (filled_places clauses made (above ++ l ∷ []) (literals_at clauses c) trees (d + 1) (omega (arith, is, length_push above l)) h.1)
+      (ap (λ faces. places_among clauses (above ++ l ∷ []) (literals_at clauses c) (filled_among made faces trees)) (faces_push above l face h.0)
+      ∙ filled_places clauses made (above ++ l ∷ []) (literals_at clauses c) trees h.2)
 
-  pub filled_places : (clauses : List Clause) (made : ℕ → Skeleton) (above ls : List Literal) (ss : Skeletons) (d : ℕ) → d ≡ length above + 1 → AreShaped clauses ls ss
-      → places_among clauses above ls (filled_among made d ss) ≡ fill (made_at clauses made) (places_among clauses above ls ss)
-  filled_places clauses made above [] no_skeletons d is h = refl
-  filled_places clauses made above [] (more_skeletons s ss) d is h = absurd h
-  filled_places clauses made above (l ∷ ls) no_skeletons d is h = absurd h
-  filled_places clauses made above (l ∷ ls) (more_skeletons s ss) d is h =
+  pub filled_places : (clauses : List Clause) (made : Subgoal → Skeleton) (above ls : List Literal) (ss : Skeletons) → AreShaped clauses ls ss
+      → places_among clauses above ls (filled_among made (map face_of above) ss) ≡ fill (made_at clauses made) (places_among clauses above ls ss)
+  filled_places clauses made above [] no_skeletons h = refl
+  filled_places clauses made above [] (more_skeletons s ss) h = absurd h
+  filled_places clauses made above (l ∷ ls) no_skeletons h = absurd h
+  filled_places clauses made above (l ∷ ls) (more_skeletons s ss) h =
       let here = places_below clauses above l s in
       let later = places_among clauses above ls ss in
       let f = made_at clauses made in
-      places-cond clauses above ls l (is_closed_below s) s (filled_below made d s) ss (filled_among made d ss)
-      ∙ ap₂ (λ (x y : List Place). cond (not (is_closed_below s)) (x ++ later) (here ++ y)) (filled_place clauses made above l s d is h.0) (filled_places clauses made above ls ss d is h.1)
+      places-cond clauses above ls l (is_closed_below s) s (filled_below made (map face_of above) s) ss (filled_among made (map face_of above) ss)
+      ∙ ap₂ (λ (x y : List Place). cond (not (is_closed_below s)) (x ++ later) (here ++ y)) (filled_place clauses made above l s h.0) (filled_places clauses made above ls ss h.1)
       ∙ ap (λ b. cond b (fill f here ++ later) (here ++ fill f later)) (sym (open_below clauses above l s h.0))
       ∙ sym (fill-append f here later)
 
@@ -189,21 +197,25 @@ cond-either : {A : Type 0} (P : A → Type 0) (b : Bool) (x y : A) → P x → P
 cond-either P true x y p q = p
 cond-either P false x y p q = q
 
-mutual
-  shaped_filled : (clauses : List Clause) (made : ℕ → Skeleton) → ((l : Literal) (d : ℕ) → IsShaped clauses l (made d)) → (l : Literal) (s : Skeleton) (d : ℕ)
-      → IsShaped clauses l s → IsShaped clauses l (filled_below made d s)
-  shaped_filled clauses made m l (unclosed face) d h = m l d
-  shaped_filled clauses made m l (closed k) d h = h
-  shaped_filled clauses made m l (extended c trees) d h = (h.0, shaped_filled_among clauses made m (literals_at clauses c) trees (d + 1) h.1)
+-- what takes a leaf's place has the leaf's shape
+abbrev pub KeepsShape : List Clause → (Subgoal → Skeleton) → Type 0
+KeepsShape clauses made = (l : Literal) (leaf : Subgoal) → leaf.face ≡ face_of l → IsShaped clauses l (made leaf)
 
-  pub shaped_filled_among : (clauses : List Clause) (made : ℕ → Skeleton) → ((l : Literal) (d : ℕ) → IsShaped clauses l (made d)) → (ls : List Literal) (ss : Skeletons) (d : ℕ)
-      → AreShaped clauses ls ss → AreShaped clauses ls (filled_among made d ss)
-  shaped_filled_among clauses made m [] no_skeletons d h = h
-  shaped_filled_among clauses made m [] (more_skeletons s ss) d h = absurd h
-  shaped_filled_among clauses made m (l ∷ ls) no_skeletons d h = absurd h
-  shaped_filled_among clauses made m (l ∷ ls) (more_skeletons s ss) d h =
-      cond-either (AreShaped clauses (l ∷ ls)) (is_closed_below s) (more_skeletons s (filled_among made d ss)) (more_skeletons (filled_below made d s) ss)
-      (h.0, shaped_filled_among clauses made m ls ss d h.1) (shaped_filled clauses made m l s d h.0, h.1)
+mutual
+  shaped_filled : (clauses : List Clause) (made : Subgoal → Skeleton) → KeepsShape clauses made → (l : Literal) (s : Skeleton) (faces : List Face)
+      → IsShaped clauses l s → IsShaped clauses l (filled_below made faces s)
+  shaped_filled clauses made m l (unclosed face) faces h = m l (record { above = faces; face = face }) h
+  shaped_filled clauses made m l (closed face k) faces h = h
+  shaped_filled clauses made m l (extended face c trees) faces h = (h.0, h.1, shaped_filled_among clauses made m (literals_at clauses c) trees (faces ++ face ∷ []) h.2)
+
+  pub shaped_filled_among : (clauses : List Clause) (made : Subgoal → Skeleton) → KeepsShape clauses made → (ls : List Literal) (ss : Skeletons) (faces : List Face)
+      → AreShaped clauses ls ss → AreShaped clauses ls (filled_among made faces ss)
+  shaped_filled_among clauses made m [] no_skeletons faces h = h
+  shaped_filled_among clauses made m [] (more_skeletons s ss) faces h = absurd h
+  shaped_filled_among clauses made m (l ∷ ls) no_skeletons faces h = absurd h
+  shaped_filled_among clauses made m (l ∷ ls) (more_skeletons s ss) faces h =
+      cond-either (AreShaped clauses (l ∷ ls)) (is_closed_below s) (more_skeletons s (filled_among made faces ss)) (more_skeletons (filled_below made faces s) ss)
+      (h.0, shaped_filled_among clauses made m ls ss faces h.1) (shaped_filled clauses made m l s faces h.0, h.1)
 
 pub shaped-leaves : (clauses : List Clause) (ls : List Literal) → AreShaped clauses ls (leaves ls)
 shaped-leaves clauses [] = tt
@@ -211,7 +223,7 @@ shaped-leaves clauses (l ∷ ls) = (refl, shaped-leaves clauses ls)
 
 pub shaped-leaves_but : (clauses : List Clause) (ls : List Literal) (j d : ℕ) → AreShaped clauses ls (leaves_but j d ls)
 shaped-leaves_but clauses [] j d = tt
-shaped-leaves_but clauses (l ∷ ls) zero d = (tt, shaped-leaves clauses ls)
+shaped-leaves_but clauses (l ∷ ls) zero d = (refl, shaped-leaves clauses ls)
 shaped-leaves_but clauses (l ∷ ls) (suc j) d = (refl, shaped-leaves_but clauses ls j d)
 
 -- ---- facts of all places

@@ -23,7 +23,7 @@ use Rattle.pm_cnf.specs.declared.error.Place.{Place}
 use Rattle.pm_cnf.specs.Refusals.{Refuses}
 use Rattle.pm_top.specs.declared.status.Status.{Status}
 use Rattle.pm_top.specs.declared.status.Status.TheVariants as ends
-use Rattle.pm_top.specs.Drawn.{IsBare, HasNoArguments}
+use Rattle.pm_top.specs.Arguments.{IsBare, HasNoArguments}
 use Rattle.pm_top.specs.Text.{input_error}
 use Rattle.pm_top.specs.Run.{standard_limits, IsRefusal, EndsProof, EndsClauses, HasLearnt, these_bytes}
 

@@ -5,18 +5,18 @@ use Rattle.pm_logic.specs.declared.problem.Start.{Start as Rule}
 use Rattle.pm_logic.specs.declared.problem.Start.TheVariants.{Negative}
 use Rattle.pm_logic.specs.Problem.{Problem}
 use Rattle.pm_logic.specs.Tableau.{Tableau, depth}
-use Rattle.pm_logic.specs.Connection.{IsInClass}
-use Rattle.pm_logic.specs.Choices.{IsComplete, IsGeneral}
-use Rattle.pm_logic.proofs.General.{general_in_class}
-use Rattle.pm_logic.proofs.Refutation.{refuted}
-use Rattle.pm_logic.proofs.TreesToLists.{tableau_follows}
+use Rattle.pm_calculus.specs.Connection.{IsInClass}
+use Rattle.pm_calculus.specs.Choices.{IsComplete, IsGeneral}
+use Rattle.pm_calculus.proofs.General.{general_in_class}
+use Rattle.pm_calculus.proofs.Refutation.{refuted}
+use Rattle.pm_calculus.proofs.TreesToLists.{tableau_follows}
 use Rattle.pm_deepen.specs.declared.DeepEnd.{DeepEnd}
 use Rattle.pm_deepen.specs.declared.DeepEnd.TheVariants.{Proof, DepthReached, BudgetOut}
 use Rattle.pm_deepen.specs.Answer.{AreExhausted, IsAnswer}
 use Rattle.pm_deepen.specs.Levels.{key_of, IsAnswerOf}
 use Rattle.pm_top.specs.declared.status.Status.{Status}
 use Rattle.pm_top.specs.declared.status.Status.TheVariants as ends
-use Rattle.pm_top.specs.Spaces.{plain_level}
+use Rattle.pm_top.specs.Spaces.{depth_level}
 use Rattle.pm_top.specs.Text.{gave_up, resource_out}
 use Rattle.pm_top.specs.Certificate.{proof_text}
 use Rattle.pm_top.specs.Run.{standard, level_of, status_of, text_of, IsProofAt, EndsSearch}
@@ -35,7 +35,7 @@ at_own_depth problem level t h = record {
   closed = h.closed;
   connected = h.connected;
   regular = tt;
-  within = record { depth = omega arith };
+  within = omega arith;
 }
 
 proof_at : (problem : Problem) (works : List ℕ) (level work : ℕ) (path : List ℕ) (t : Tableau) → AreExhausted (λ bound. key_of (level_of problem bound)) standard.budget works
@@ -46,7 +46,7 @@ proof_at problem works level work path t exhausted is complete general =
       member = member;
       deep = elim (cases_lt (depth t) level) [
         | inl less ↦ absurd (exhausted_empty problem works exhausted (depth t) (omega (arith, less, is)) t (at_own_depth problem level t member))
-        | inr more ↦ (let within = member.within.depth in omega (arith, more, within))
+        | inr more ↦ omega (arith, more, member.within)
       ];
       refuted = λ atoms. refuted problem.clauses t member.over member.closed atoms;
     })
@@ -76,13 +76,13 @@ search_ends problem works end tableau status text h status_is text_is = record {
 
 -- the answer of the search of a calculus, which is one of the problem with the start rule of every run
 pub answer_of : (problem given : Problem) (start : Rule) (works : List ℕ) (end : DeepEnd) → given ≡ problem → start ≡ Negative
-    → IsAnswer (λ bound. key_of (plain_level given start bound)) 30 1000000 works end → IsAnswer (λ bound. key_of (level_of problem bound)) 30 1000000 works end
+    → IsAnswer (λ bound. key_of (depth_level given start bound)) 30 1000000 works end → IsAnswer (λ bound. key_of (level_of problem bound)) 30 1000000 works end
 answer_of problem given start works end same negative h =
-    subst (λ (p : Problem). IsAnswer (λ bound. key_of (plain_level p Negative bound)) 30 1000000 works end) same
-    (subst (λ (r : Rule). IsAnswer (λ bound. key_of (plain_level given r bound)) 30 1000000 works end) negative h)
+    subst (λ (p : Problem). IsAnswer (λ bound. key_of (depth_level p Negative bound)) 30 1000000 works end) same
+    (subst (λ (r : Rule). IsAnswer (λ bound. key_of (depth_level given r bound)) 30 1000000 works end) negative h)
 
 pub ends_depth : (problem given : Problem) (start : Rule) (works shown : List ℕ) (end : DeepEnd) (text : List ℕ) → given ≡ problem → start ≡ Negative
-    → IsAnswer (λ bound. key_of (plain_level given start bound)) 30 1000000 works end → end ≡ DepthReached → shown ≡ works → text ≡ gave_up shown
+    → IsAnswer (λ bound. key_of (depth_level given start bound)) 30 1000000 works end → end ≡ DepthReached → shown ≡ works → text ≡ gave_up shown
     → EndsSearch problem ends.DepthReached text
 ends_depth problem given start works shown end text same negative h is shown_is text_is =
     search_ends problem works DepthReached None ends.DepthReached text
@@ -93,7 +93,7 @@ ends_depth problem given start works shown end text same negative h is shown_is 
     refl (text_is ∙ ap gave_up shown_is)
 
 pub ends_budget : (problem given : Problem) (start : Rule) (works shown : List ℕ) (end : DeepEnd) (level : ℕ) (text : List ℕ) → given ≡ problem → start ≡ Negative
-    → IsAnswer (λ bound. key_of (plain_level given start bound)) 30 1000000 works end → end ≡ BudgetOut level → shown ≡ works → text ≡ resource_out shown
+    → IsAnswer (λ bound. key_of (depth_level given start bound)) 30 1000000 works end → end ≡ BudgetOut level → shown ≡ works → text ≡ resource_out shown
     → EndsSearch problem ends.Budget text
 ends_budget problem given start works shown end level text same negative h is shown_is text_is =
     search_ends problem works (BudgetOut level) None ends.Budget text
@@ -104,10 +104,10 @@ ends_budget problem given start works shown end level text same negative h is sh
     refl (text_is ∙ ap resource_out shown_is)
 
 pub ends_proof : (problem given : Problem) (start : Rule) (works shown : List ℕ) (end : DeepEnd) (level work : ℕ) (path taken : List ℕ) (t : Tableau) (text : List ℕ)
-    → given ≡ problem → start ≡ Negative → IsAnswer (λ bound. key_of (plain_level given start bound)) 30 1000000 works end → end ≡ Proof level path work → shown ≡ works
-    → taken ≡ path → IsGeneral (plain_level given start level) taken t → text ≡ proof_text given.symbols t shown work → EndsSearch problem ends.Done text
+    → given ≡ problem → start ≡ Negative → IsAnswer (λ bound. key_of (depth_level given start bound)) 30 1000000 works end → end ≡ Proof level path work → shown ≡ works
+    → taken ≡ path → IsGeneral (depth_level given start level) taken t → text ≡ proof_text given.symbols t shown work → EndsSearch problem ends.Done text
 ends_proof problem given start works shown end level work path taken t text same negative h is shown_is taken_is general text_is =
-    let moved = subst (λ (p : Problem). IsGeneral (plain_level p Negative level) taken t) same (subst (λ (r : Rule). IsGeneral (plain_level given r level) taken t) negative general) in
+    let moved = subst (λ (p : Problem). IsGeneral (depth_level p Negative level) taken t) same (subst (λ (r : Rule). IsGeneral (depth_level given r level) taken t) negative general) in
     search_ends problem works (Proof level path work) (Some t) ends.Done text
     (record {
       search = subst (λ (e : DeepEnd). IsAnswer (λ bound. key_of (level_of problem bound)) 30 1000000 works e) is (answer_of problem given start works end same negative h);

@@ -3,18 +3,19 @@ use Rattle.std.specs.Prelude.{ℕ, ◌+◌, cond, List, [], ◌∷◌, ◌++◌,
 use Rattle.std.specs.Option.{option_map_or}
 use Rattle.pm_logic.specs.Lists.{places}
 use Rattle.pm_logic.specs.Problem.{Symbol, Literal}
-use Rattle.pm_logic.specs.Word.{written_word}
+use Rattle.pm_logic.specs.Word.{written_symbol}
 use Rattle.pm_logic.specs.Tableau.{Node, leaf, inner, Nodes, no_nodes, more_nodes, Tableau, depth, preorder}
-use Rattle.pm_logic.specs.Skeleton.{face_of, is_opposite}
+use Rattle.pm_calculus.specs.Skeleton.{face_of}
+use Rattle.pm_calculus.specs.Alternatives.{has_face, opposite}
 use Rattle.pm_top.specs.Text.{level_lines}
 
 -- The least depth of an ancestor that is complementary to the literal: without arguments, of opposite
 -- sign and the same predicate. 0 where there is none.
 abbrev pub closer : List Literal → Literal → ℕ
-closer above literal = slice_index_or (places (is_opposite (face_of literal)) 1 above) 0 0
+closer above literal = slice_index_or (places (has_face (opposite (face_of literal))) 1 above) 0 0
 
 abbrev pub word : List Symbol → ℕ → List ℕ
-word symbols predicate = option_map_or (λ symbol. written_word symbol.text) (slice_get symbols predicate) []
+word symbols predicate = option_map_or written_symbol (slice_get symbols predicate) []
 
 -- 3 - p  for a node at depth 3
 abbrev pub node_front : List Symbol → ℕ → Literal → List ℕ

@@ -1,26 +1,18 @@
 -- Tableaux over clauses whose predicates have no arguments: there is nothing to put for a variable, so
 -- what choices build is the tableau in which each node carries its clause's own literal.
-use Rattle.std.specs.Prelude.{◌≡◌, ℕ, ◌<◌, List, [], ◌∷◌, All, length, map, fold}
+use Rattle.std.specs.Prelude.{ℕ, ◌<◌, List, [], ◌∷◌, map, fold}
 use Rattle.pm_logic.specs.Problem.{Literal, Clause, Problem}
 use Rattle.pm_logic.specs.Tableau.{Node, leaf, inner, Nodes, no_nodes, more_nodes, Tableau}
-use Rattle.pm_logic.specs.Skeleton.{Skeleton, unclosed, closed, extended, Skeletons, no_skeletons, more_skeletons, State, empty, rooted, literals_at, after_step}
-use Rattle.pm_logic.specs.Skeleton as logic
+use Rattle.pm_calculus.specs.Skeleton.{Skeleton, unclosed, closed, extended, Skeletons, no_skeletons, more_skeletons, State, empty, rooted, literals_at, after_step}
+use Rattle.pm_calculus.specs.Skeleton as logic
 use Rattle.pm_top.specs.declared.calculus.Step.{Step}
 use Rattle.pm_top.specs.declared.calculus.Step.TheVariants.{Start, Extend, Reduce}
-
--- its predicate takes no arguments
-abbrev pub IsBare : Literal → Type 0
-IsBare literal = length literal.args ≡ 0
-
--- no predicate has arguments
-abbrev pub HasNoArguments : Problem → Type 0
-HasNoArguments problem = All (λ clause. All IsBare clause.literals) problem.clauses
 
 abbrev mutual
   pub drawn_below : List Clause → Literal → Skeleton → Node
   drawn_below clauses literal (unclosed face) = leaf literal
-  drawn_below clauses literal (closed ancestor) = leaf literal
-  drawn_below clauses literal (extended clause children) = inner literal clause (drawn_among clauses (literals_at clauses clause) children)
+  drawn_below clauses literal (closed face ancestor) = leaf literal
+  drawn_below clauses literal (extended face clause children) = inner literal clause (drawn_among clauses (literals_at clauses clause) children)
 
   pub drawn_among : List Clause → List Literal → Skeletons → Nodes
   drawn_among clauses [] trees = no_nodes

@@ -1,8 +1,8 @@
 -- The laws of the key of a level of the calculus.
 use Rattle.std.proofs.Common.{[], ◌∷◌, arith}
-use Rattle.pm_logic.specs.Connection.{Level}
-use Rattle.pm_logic.proofs.Growth.{complete_ends}
-use Rattle.pm_logic.proofs.Prefixes.{prefix_reached, choice_below_width}
+use Rattle.pm_calculus.specs.Connection.{Level}
+use Rattle.pm_calculus.proofs.Growth.{complete_ends}
+use Rattle.pm_calculus.proofs.Prefixes.{prefix_reached, choice_below_width}
 use Rattle.pm_space.specs.Key.{IsKey}
 use Rattle.pm_deepen.specs.Levels.{key_of}
 

@@ -2,6 +2,7 @@ pub mod Goals
 pub mod GoalViews
 pub mod KeyLaws
 pub mod Spaces
+pub mod Arguments
 pub mod Drawn
 pub mod Drawing
 pub mod Status
@@ -10,3 +11,4 @@ pub mod Certificate
 pub mod JobWords
 pub mod JobViews
 pub mod Run
+pub mod Inside

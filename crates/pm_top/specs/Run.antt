@@ -2,18 +2,17 @@
 use Rattle.std.specs.Prelude.{◌≡◌, ℕ, ◌<◌, ◌≤◌, ◌⊎◌, List, [], length, Option, None, Some, IsNone, IfSome, IsSomeAnd}
 use Rattle.std.specs.FinMap as map
 use Rattle.pm_logic.specs.declared.problem.Class.TheVariants.{Plain}
+use Rattle.pm_logic.specs.declared.tableau.BoundKind.TheVariants.{Depth}
 use Rattle.pm_logic.specs.declared.problem.Start.TheVariants.{Negative}
 use Rattle.pm_logic.specs.Problem.{Problem}
 use Rattle.pm_logic.specs.Tableau.{Tableau, depth}
-use Rattle.pm_logic.specs.Connection.{Level, IsInClass}
-use Rattle.pm_logic.specs.Truth.{Atom, HasFalseInstance}
+use Rattle.pm_calculus.specs.Connection.{Level, IsInClass}
+use Rattle.pm_calculus.specs.Truth.{Atom, HasFalseInstance}
 use Rattle.pm_outside.specs.Outside.{Files, Rose, Appends, AppendsPrefix}
 use Rattle.pm_deepen.specs.declared.DeepEnd.{DeepEnd}
 use Rattle.pm_deepen.specs.declared.DeepEnd.TheVariants.{Proof, DepthReached, BudgetOut}
 use Rattle.pm_deepen.specs.Levels.{Options, level_at, IsAnswerOf}
 use Rattle.pm_top.specs.declared.run.TheConstants.{MAX_FILE_BYTES}
-use Rattle.pm_top.specs.declared.run.Fault.{Fault}
-use Rattle.pm_top.specs.declared.run.Fault.TheVariants.{Missing, ReadFault, NoMemory}
 use Rattle.pm_top.specs.declared.status.Status.{Status}
 use Rattle.pm_top.specs.declared.status.Status.TheVariants as ends
 use Rattle.pm_cnf.specs.declared.error.CnfKind.{CnfKind}
@@ -24,7 +23,7 @@ use Rattle.pm_cnf.specs.Meaning.{IsProblemIn}
 use Rattle.pm_cnf.specs.Refusals.{before}
 use Rattle.pm_cnf.specs.Text.{problem_text}
 use Rattle.pm_top.specs.JobWords.{Job, prove, clauses, file_of, job_of}
-use Rattle.pm_top.specs.Drawn.{HasNoArguments}
+use Rattle.pm_top.specs.Arguments.{HasNoArguments}
 use Rattle.pm_top.specs.Text.{gave_up, resource_out, bad_words, input_error, arguments_not_built, too_long}
 use Rattle.pm_top.specs.Certificate.{proof_text}
 
@@ -49,7 +48,8 @@ standard_limits = record { clauses = 65536; literals = 255; variables = 1000; ar
 
 -- what a problem is searched with
 abbrev pub standard : Options
-standard = record { class = Plain; start = Negative; depth = 30; budget = 1000000 }
+standard =
+    record { class = Plain; start = Negative; bound = Depth; depth = 30; budget = 1000000 }
 
 -- the level of this depth
 abbrev pub level_of : Problem → ℕ → Level
@@ -135,12 +135,6 @@ HasWritten words told longs old new status = (text : List ℕ) × Output words t
 -- the file that the words name isn't among the told ones
 abbrev pub IsMissing : List (List ℕ) → Option Files → Type 0
 IsMissing words told = IsSomeAnd (job_of words) (λ job. IfSome told (λ files. map.get files (file_of job) ≡ None))
-
--- the status of a run that a fault ends
-abbrev pub fault_status : Fault → Status
-fault_status Missing = ends.Missing
-fault_status ReadFault = ends.ReadFault
-fault_status NoMemory = ends.NoMemory
 
 -- words and files determine the status and the text
 abbrev pub OutputIsDetermined : Type 0

@@ -1,15 +1,16 @@
 -- The level that a space is of, and what it keeps of the state after each prefix of its path.
 use Rattle.std.specs.Prelude.{ℕ, Bool, true, false, List, [], ◌∷◌, ◌++◌, Option, Some, None}
-use Rattle.pm_logic.specs.declared.problem.Class.TheVariants.{Plain}
-use Rattle.pm_logic.specs.Connection.{Level}
+use Rattle.pm_logic.specs.declared.tableau.BoundKind.TheVariants.{Depth}
+use Rattle.pm_calculus.specs.Choices.{plain_level}
+use Rattle.pm_calculus.specs.Connection.{Level}
 use Rattle.pm_logic.specs.Problem.{Problem}
 use Rattle.pm_logic.specs.declared.problem.Start.{Start as Rule}
 pub use Rattle.pm_top.specs.declared.calculus.Frame.{Frame}
 use Rattle.pm_top.specs.Goals.{State, goals, unstarted, state_after, width_of}
 
--- a level of a problem in the plain class
-abbrev pub plain_level : Problem → Rule → ℕ → Level
-plain_level problem start bound = record { problem = problem; class = Plain; start = start; bound = bound }
+-- a level of a problem in the plain class, which bounds the depth
+abbrev pub depth_level : Problem → Rule → ℕ → Level
+depth_level problem start bound = plain_level problem start Depth bound
 
 -- whether nothing is left unclosed
 abbrev pub is_closed : Option State → Bool

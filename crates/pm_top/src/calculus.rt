@@ -4,7 +4,7 @@
 ghost use Rattle.std.specs.Prelude.{◌≡◌, ℕ, ◌+◌, ◌<◌, ◌≤◌, ◌++◌, ◌∷◌, [], IfOk, IfSome, OnOk, ◌*◌, ◌^◌, List, length, map, slice_get};
 ghost use Rattle.std.specs.Option.{option_map};
 ghost use Rattle.pm_logic.specs.Problem.{start_clauses};
-ghost use Rattle.pm_top.specs.Drawn.{HasNoArguments};
+ghost use Rattle.pm_top.specs.Arguments.{HasNoArguments};
 ghost use Rattle.pm_top.specs.Goals.{alternatives, are_opposite, clause_faces, clause_heads, extensions, heads_of, opposite_heads, reductions};
 
 use crate::drawing::draw;
@@ -174,8 +174,8 @@ impl State {
 impl<'p> Calculus<'p> {
     ghost use Rattle.pm_top.specs.Goals.{after, next_state, state_after, steps_from};
     ghost use Rattle.pm_top.specs.Goals as spec;
-    ghost use Rattle.pm_logic.specs.Choices.{IsComplete, IsGeneral};
-    ghost use Rattle.pm_top.specs.Spaces.{frame_of, plain_level};
+    ghost use Rattle.pm_calculus.specs.Choices.{IsComplete, IsGeneral};
+    ghost use Rattle.pm_top.specs.Spaces.{frame_of, depth_level};
     ghost use Rattle.pm_top.specs.GoalViews.{Allows, goal_of, state_of};
 
     /// The calculus of a problem whose predicates have no arguments, with a start rule.
@@ -445,8 +445,8 @@ impl<'p> Calculus<'p> {
         choices: &[u32],
     ) -> Result<Tableau, AllocError>
         requires level { level ≤ 250 }
-        requires complete { IsComplete (plain_level self.now.problem.now self.now.start level) choices.now }
-        ensures { IfOk result (λ tableau. IsGeneral (plain_level self.now.problem.now self.now.start level) choices.now tableau.tableau) }
+        requires complete { IsComplete (depth_level self.now.problem.now self.now.start level) choices.now }
+        ensures { IfOk result (λ tableau. IsGeneral (depth_level self.now.problem.now self.now.start level) choices.now tableau.tableau) }
     {
         let steps = self.steps(alloc, level, choices)?;
         let Some(first) = steps.first() else {

@@ -3,17 +3,18 @@ ghost use Rattle.std.specs.Prelude.{◌≡◌, ◌+◌, ◌++◌, [], List, IfOk
 ghost use Rattle.pm_logic.specs.Tableau.{childless};
 ghost use Rattle.pm_logic.specs.Term.{Term};
 ghost use Rattle.pm_logic.specs.View.{literal_of};
-ghost use Rattle.pm_logic.specs.Skeleton.{face_of, is_opposite};
+ghost use Rattle.pm_calculus.specs.Skeleton.{face_of};
+ghost use Rattle.pm_calculus.specs.Alternatives.{has_face, opposite};
 ghost use Rattle.pm_top.specs.Certificate.{certificate, closer, lines_among, lines_below, node_front, proof_text};
 
 use crate::texts::{push_levels, push_number};
-use pm_logic::{Literal, Node, NodeKind, Problem, Symbols, Tableau, tableau_depth, write_word};
+use pm_logic::{Literal, Node, NodeKind, Problem, Symbols, Tableau, tableau_depth, write_symbol};
 use std::alloc::{AllocError, Global};
 
 /// Whether the literals have the same predicate and opposite signs, which makes them complementary where
 /// they have no arguments.
 fn are_complementary(leaf: &Literal, ancestor: &Literal) -> bool
-    ensures { (terms : List Term) → result ≡ is_opposite (face_of (literal_of terms leaf.now)) (literal_of terms ancestor.now) }
+    ensures { (terms : List Term) → result ≡ has_face (opposite (face_of (literal_of terms leaf.now))) (literal_of terms ancestor.now) }
 {
     leaf.positive != ancestor.positive && leaf.predicate == ancestor.predicate
 }
@@ -42,7 +43,7 @@ fn push_front(
     push_number(text, depth)?;
     text.extend_from_slice(if literal.positive { b" + " } else { b" - " })?;
     if literal.predicate < symbols.len() {
-        write_word(text, symbols.text(literal.predicate))?;
+        write_symbol(text, symbols, literal.predicate)?;
     }
     Ok(())
 }

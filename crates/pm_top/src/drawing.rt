@@ -3,7 +3,8 @@ ghost use Rattle.std.specs.Prelude.{◌≡◌, ◌<◌, ◌≤◌, ◌++◌, ◌
 ghost use Rattle.std.specs.List.{enumerate_from};
 ghost use Rattle.pm_logic.specs.declared.tableau.NodeKind.{NodeKind};
 ghost use Rattle.pm_logic.specs.Tableau.{preorder, deepest_next, depth};
-ghost use Rattle.pm_top.specs.Drawn.{HasNoArguments, NamesClause, drawn, built};
+ghost use Rattle.pm_top.specs.Arguments.{HasNoArguments};
+ghost use Rattle.pm_top.specs.Drawn.{NamesClause, drawn, built};
 ghost use Rattle.pm_top.specs.Drawing.{AreNested, DrewClosed, entry_as, pending_at};
 
 use crate::calculus::{Face, Step};

@@ -7,11 +7,12 @@ ghost use Rattle.pm_cnf.specs.Refusals.{Refuses};
 ghost use Rattle.pm_top.specs.JobWords.{job_of};
 ghost use Rattle.pm_top.specs.JobViews.{job_view};
 ghost use Rattle.pm_logic.specs.Tableau.{Tableau};
-ghost use Rattle.pm_logic.specs.Choices.{IsComplete, IsGeneral};
+ghost use Rattle.pm_calculus.specs.Choices.{IsComplete, IsGeneral};
 ghost use Rattle.pm_top.specs.Certificate.{proof_text};
-ghost use Rattle.pm_top.specs.Drawn.{HasNoArguments};
-ghost use Rattle.pm_top.specs.Spaces.{plain_level};
-ghost use Rattle.pm_top.specs.Run.{Output, OutputIsDetermined, HasWritten, EndsJob, EndsProof, EndsClauses, EndsSearch, IsRefusal, IsMissing, fault_status, standard_limits};
+ghost use Rattle.pm_top.specs.Arguments.{HasNoArguments};
+ghost use Rattle.pm_top.specs.Spaces.{depth_level};
+ghost use Rattle.pm_top.specs.Inside.Faults.{fault_status};
+ghost use Rattle.pm_top.specs.Run.{Output, OutputIsDetermined, HasWritten, EndsJob, EndsProof, EndsClauses, EndsSearch, IsRefusal, IsMissing, standard_limits};
 
 use crate::calculus::Calculus;
 use crate::certificate::proof;
@@ -83,8 +84,8 @@ fn found_text(
     work: u64,
 ) -> Result<Vec<u8>, AllocError>
     requires level { level ≤ 250 }
-    requires complete { IsComplete (plain_level calculus.now.problem.now calculus.now.start level) path.now }
-    ensures { IfOk result (λ text. (tableau : Tableau) × IsGeneral (plain_level calculus.now.problem.now calculus.now.start level) path.now tableau × (text.items ≡ proof_text calculus.now.problem.now.symbols tableau works.now work)) }
+    requires complete { IsComplete (depth_level calculus.now.problem.now calculus.now.start level) path.now }
+    ensures { IfOk result (λ text. (tableau : Tableau) × IsGeneral (depth_level calculus.now.problem.now calculus.now.start level) path.now tableau × (text.items ≡ proof_text calculus.now.problem.now.symbols tableau works.now work)) }
 {
     let tableau = calculus.general_tableau(alloc, level, path)?;
     proof(alloc, calculus.problem(), &tableau, works, work)

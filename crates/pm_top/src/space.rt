@@ -4,9 +4,9 @@
 ghost use Rattle.std.specs.Prelude.{◌≡◌, ℕ, ◌≤◌, All, length, List, [], ◌∷◌, ◌++◌, is_ok, if◌then◌else◌, IfOk, IsSome};
 ghost use Rattle.pm_space.specs.Key.{Key};
 ghost use Rattle.pm_deepen.specs.Levels.{key_of};
-ghost use Rattle.pm_top.specs.Drawn.{HasNoArguments};
+ghost use Rattle.pm_top.specs.Arguments.{HasNoArguments};
 ghost use Rattle.pm_top.specs.Goals.{state_after};
-ghost use Rattle.pm_top.specs.Spaces.{Frame, frame_of, frames_before, plain_level};
+ghost use Rattle.pm_top.specs.Spaces.{Frame, frame_of, frames_before, depth_level};
 
 use crate::calculus::{Calculus, Frame, State};
 use pm_space::{Maker, Space};
@@ -33,7 +33,7 @@ impl<'m, 'p> Space for ClauseSpace<'m, 'p> {
 
     ghost path = { λ space. space.path.items };
 
-    ghost key = { λ space. key_of (plain_level space.calculus.now.problem.now space.calculus.now.start space.level) };
+    ghost key = { λ space. key_of (depth_level space.calculus.now.problem.now space.calculus.now.start space.level) };
 
     fn width(&self) -> u32 {
         self.frame.width
@@ -70,7 +70,7 @@ impl<'m, 'p> Space for ClauseSpace<'m, 'p> {
         from
     }
 
-    ghost is_key = { λ space. level_laws (plain_level space.calculus.now.problem.now space.calculus.now.start space.level) };
+    ghost is_key = { λ space. level_laws (depth_level space.calculus.now.problem.now space.calculus.now.start space.level) };
 }
 
 // Pushes to both or, after want of memory, to neither.
@@ -94,7 +94,7 @@ fn push_both(
 impl<'m, 'p> Maker for &'m Calculus<'p> {
     type Made = ClauseSpace<'m, 'p>;
 
-    ghost key_at = { λ calculus level. key_of (plain_level calculus.now.problem.now calculus.now.start level) };
+    ghost key_at = { λ calculus level. key_of (depth_level calculus.now.problem.now calculus.now.start level) };
 
     fn make(&self, alloc: Global, level: u32) -> Result<ClauseSpace<'m, 'p>, AllocError> {
         let calculus: &'m Calculus<'p> = *self;

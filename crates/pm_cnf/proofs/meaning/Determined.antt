@@ -4,18 +4,20 @@ use Rattle.std.specs.Prelude.{Some, map, if◌then◌else◌, ◌==◌, not}
 use Rattle.std.specs.List.{list_any, flat_map}
 use Rattle.pm_logic.specs.Problem as logic
 use Rattle.pm_logic.specs.Term as tree
+use Rattle.pm_logic.specs.Lists.{Gathers}
+use Rattle.pm_logic.proofs.Gathering.{Gathers-same}
 use Rattle.pm_cnf.specs.declared.error.CnfKind.{CnfKind}
 use Rattle.pm_cnf.specs.declared.error.CnfKind.TheVariants.{BadByte, BadToken, UnclosedComment, UnclosedQuote, Unexpected, EndInItem, NotCnf, Include, Equality, Number, DistinctObject, TooManyClauses, TooManyLiterals, TooManyVariables, ArityTooLarge, TooDeep}
 use Rattle.pm_cnf.specs.Lexemes.{Token, tokens_in}
 use Rattle.pm_cnf.specs.Grammar.{Term, variable, application, Arguments, no_arguments, more_arguments, Literal, Item, AreItems, file_places, tokens_of}
 use Rattle.pm_cnf.specs.Offences.{rank}
-use Rattle.pm_cnf.specs.Meaning.{Pairwise, Gathers, holds_always, is_kept, kept_items, Kept, kept_among, kept_literals, function_of, predicate_of, variables_among, literal_symbols, item_variables, with_texts, IsTreeOf, AreTreesOf, IsLiteralOf, label_of, IsClauseOf, clause_terms, IsProblemOf}
+use Rattle.pm_cnf.specs.Meaning.{Pairwise, holds_always, is_kept, kept_items, Kept, kept_among, kept_literals, function_of, predicate_of, variables_among, literal_symbols, item_variables, with_texts, IsTreeOf, AreTreesOf, IsLiteralOf, label_of, IsClauseOf, clause_terms, IsProblemOf}
 use Rattle.pm_cnf.specs.Inside.Machine.{start}
 use Rattle.pm_cnf.specs.Inside.Draft.{written, draft_after, nothing_drafted}
 use Rattle.pm_cnf.specs.Laws.{ProblemIsDetermined, OffenceIsDetermined}
 use Rattle.pm_cnf.proofs.lexemes.Chains.{same_place}
 use Rattle.pm_cnf.proofs.meaning.Nodes.{SameItem, items_are}
-use Rattle.pm_cnf.proofs.meaning.GatheredOnce.{HoldsOnce, once_nil, gathers_once, gathers_same, with_texts_once}
+use Rattle.pm_cnf.proofs.meaning.GatheredOnce.{HoldsOnce, gathers_once, with_texts_once}
 use Rattle.pm_cnf.proofs.parsed.Drafts.{file_drafts}
 
 -- ---- the first offence
@@ -146,7 +148,7 @@ clause_same symbols once a b c d same at there =
     (at.name ∙ ap label_of same.name ∙ sym there.name)
     (at.role ∙ same.role ∙ sym there.role)
     (at.vars ∙ ap (λ (ls : List Literal). length (literals_variables ls)) same.literals ∙ sym there.vars)
-    (literals_same symbols (item_variables a) once (with_texts_once [] (flat_map (λ literal. variables_among literal.args) (kept_literals a)) once_nil) (kept_literals a) c.literals d.literals at.literals
+    (literals_same symbols (item_variables a) once (with_texts_once (flat_map (λ literal. variables_among literal.args) (kept_literals a))) (kept_literals a) c.literals d.literals at.literals
     (subst (λ (ls : List Literal). Pairwise (IsLiteralOf symbols (literals_variables ls)) (kept_among ls) d.literals) (sym same.literals) there.literals))
 
 clauses_same : (symbols : List logic.Symbol) → HoldsOnce symbols → (xs ys : List Item) (cs ds : List logic.Clause) → Pairwise SameItem xs ys → Pairwise (IsClauseOf symbols) xs cs → Pairwise (IsClauseOf symbols) ys ds
@@ -172,12 +174,12 @@ problem_same xs ys p q same at there =
     let kept = same_kept xs ys same in
     let occurrences : List Item → List logic.Symbol = λ items. flat_map (λ item. flat_map literal_symbols (kept_literals item)) items in
     let symbols : p.symbols ≡ q.symbols =
-    gathers_same [] (occurrences (kept_items xs)) p.symbols q.symbols at.symbols (subst (λ (ss : List logic.Symbol). Gathers [] ss q.symbols) (sym (symbols_same (kept_items xs) (kept_items ys) kept)) there.symbols) in
+    Gathers-same (occurrences (kept_items xs)) [] p.symbols q.symbols at.symbols (subst (λ (ss : List logic.Symbol). Gathers [] ss q.symbols) (sym (symbols_same (kept_items xs) (kept_items ys) kept)) there.symbols) in
     let clauses : p.clauses ≡ q.clauses =
-    clauses_same p.symbols (gathers_once [] (occurrences (kept_items xs)) p.symbols once_nil at.symbols) (kept_items xs) (kept_items ys) p.clauses q.clauses kept at.clauses
+    clauses_same p.symbols (gathers_once (occurrences (kept_items xs)) p.symbols at.symbols) (kept_items xs) (kept_items ys) p.clauses q.clauses kept at.clauses
     (subst (λ (ss : List logic.Symbol). Pairwise (IsClauseOf ss) (kept_items ys) q.clauses) (sym symbols) there.clauses) in
     let terms : p.terms ≡ q.terms =
-    gathers_same [] (flat_map clause_terms p.clauses) p.terms q.terms at.terms (subst (λ (cs : List logic.Clause). Gathers [] (flat_map clause_terms cs) q.terms) (sym clauses) there.terms) in
+    Gathers-same (flat_map clause_terms p.clauses) [] p.terms q.terms at.terms (subst (λ (cs : List logic.Clause). Gathers [] (flat_map clause_terms cs) q.terms) (sym clauses) there.terms) in
     problem_parts p q symbols terms clauses
 
 pub problem_is_determined : ProblemIsDetermined

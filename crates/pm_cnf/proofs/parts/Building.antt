@@ -7,11 +7,11 @@ use Rattle.std.proofs.lemmas.Option.{slice_get_within, get_or_from_slice_get, sl
 use Rattle.std.proofs.Math.Seq.{take-append_seam, drop-append_seam}
 use Rattle.pm_logic.specs.Term.{Term, var, app, as_terms, tree_at}
 use Rattle.pm_logic.specs.Table.{Adds, variable_count}
+use Rattle.pm_logic.specs.Lists.{Gathers}
+use Rattle.pm_logic.proofs.Gathering.{Extends, Extends-length, slice_get-extends, Gathers-one, Gathers-append, Gathers-extends}
 use Rattle.pm_cnf.specs.declared.number.Part.{Part}
 use Rattle.pm_cnf.specs.declared.number.Part.TheVariants as parts
-use Rattle.pm_cnf.specs.Meaning.{Gathers}
 use Rattle.pm_cnf.specs.Inside.Parts.{AreVariables, trees_of, applications_of, AreWellFormed}
-use Rattle.pm_cnf.proofs.meaning.Gathering.{Extends, Extends-length, slice_get-extends, Gathers-extends, Gathers-one, Gathers-append}
 use Rattle.pm_cnf.proofs.parts.VariableRows.{AreVariables-application, variable_count-extends}
 
 -- a row's tree stays as the list grows

@@ -13,14 +13,16 @@ use Rattle.pm_logic.specs.Problem as logic
 use Rattle.pm_logic.specs.Term as tree
 use Rattle.pm_logic.specs.View as view
 use Rattle.pm_logic.specs.View.{literal_of, clause_of, HasRows}
+use Rattle.pm_logic.specs.Lists.{Gathers}
+use Rattle.pm_logic.proofs.Gathering.{Extends, Extends-refl, Gathers-append, Gathers-extends}
 use Rattle.pm_cnf.specs.declared.item.Node as code
 use Rattle.pm_cnf.specs.declared.item.Item as code_item
 use Rattle.pm_cnf.specs.Grammar as grammar
 use Rattle.pm_cnf.specs.Grammar.{word_text, Term, variable, application, Arguments, no_arguments, more_arguments, Atom, truth, falsity, Item}
 use Rattle.pm_cnf.specs.Inside.Draft.{Node, Written, written, term_nodes, arguments_nodes, atom_nodes, literal_nodes}
-use Rattle.pm_cnf.specs.Meaning.{Gathers, Pairwise, Kept, argument_count, kept_from, kept_among, kept_literals, kept_items, is_kept, holds_always, literals_of, literal_symbols, symbols_in, symbols_among, variables_in, variables_among, item_variables, with_texts, label_of, IsLiteralOf, IsClauseOf, IsProblemOf, clause_terms, literal_terms}
+use Rattle.pm_cnf.specs.Meaning.{Pairwise, Kept, argument_count, kept_from, kept_among, kept_literals, kept_items, is_kept, holds_always, literals_of, literal_symbols, symbols_in, symbols_among, variables_in, variables_among, item_variables, with_texts, label_of, IsLiteralOf, IsClauseOf, IsProblemOf, clause_terms, literal_terms}
 use Rattle.pm_cnf.specs.Inside.Parts.{node_symbol, node_text, node_holds, Tables, tables, texts_of, AreNumbered, IsNumbered}
-use Rattle.pm_cnf.proofs.meaning.Gathering.{Extends, Extends-refl, Gathers-extends, Gathers-append, Pairwise-append, Pairwise-weaker}
+use Rattle.pm_cnf.proofs.meaning.Pairs.{Pairwise-append, Pairwise-weaker}
 use Rattle.pm_cnf.specs.Inside.Parsed.{node_of, name_of, item_of}
 use Rattle.pm_cnf.proofs.parts.Tabling.{symbols-count, texts_few}
 use Rattle.pm_cnf.proofs.parts.TextLemmas.{with_texts-length}

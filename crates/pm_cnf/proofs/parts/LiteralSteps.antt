@@ -12,13 +12,13 @@ use Rattle.pm_logic.specs.Problem.{Numbers}
 use Rattle.pm_logic.specs.Term.{as_terms, tree_at}
 use Rattle.pm_logic.specs.Table.{variable_count}
 use Rattle.pm_logic.specs.View.{literal_of, HasRows}
+use Rattle.pm_logic.proofs.Gathering.{slice_get-extends, Gathers-one}
 use Rattle.pm_cnf.specs.Grammar as grammar
 use Rattle.pm_cnf.specs.Grammar.{Word, word_text, Arguments, Atom}
 use Rattle.pm_cnf.specs.Inside.Draft as draft
 use Rattle.pm_cnf.specs.Inside.Draft.{Node, arguments_nodes, atom_nodes, literal_nodes}
 use Rattle.pm_cnf.specs.Meaning.{Pairwise, kept_from, kept_among, AreTreesOf, IsLiteralOf, literal_terms}
 use Rattle.pm_cnf.specs.Inside.Parts.{is_argument, IsArgument, terms_among, Tables, Grows, AreNumbered}
-use Rattle.pm_cnf.proofs.meaning.Gathering.{Gathers-one, slice_get-extends}
 use Rattle.pm_cnf.proofs.parts.Tabling.{Grows-none, Grows-append, symbols-extend, terms-extend, symbols-count}
 use Rattle.pm_cnf.proofs.parts.Literals.{cut_literal, kept_literal, constant_literal, no_argument_first, literal_more, HasRows-extends}
 

@@ -12,14 +12,16 @@ use Rattle.pm_logic.specs.Term as tree
 use Rattle.pm_logic.specs.Term.{as_terms, tree_at}
 use Rattle.pm_logic.specs.Table.{variable_count}
 use Rattle.pm_logic.specs.View.{literal_of, HasRows}
+use Rattle.pm_logic.specs.Lists.{Gathers}
+use Rattle.pm_logic.proofs.Gathering.{Extends, slice_get-extends, Gathers-extends}
 use Rattle.pm_cnf.specs.declared.number.Part.{Part}
 use Rattle.pm_cnf.specs.Grammar as grammar
 use Rattle.pm_cnf.specs.Grammar.{Word, Term, variable, application, Arguments, no_arguments, more_arguments, Atom, truth, falsity}
 use Rattle.pm_cnf.specs.Inside.Draft as draft
 use Rattle.pm_cnf.specs.Inside.Draft.{Node, term_nodes, arguments_nodes, atom_nodes, literal_nodes}
-use Rattle.pm_cnf.specs.Meaning.{Gathers, Pairwise, Kept, kept_from, kept_among, argument_count, predicate_of, function_of, IsTreeOf, AreTreesOf, IsLiteralOf, literal_terms, applications_among}
+use Rattle.pm_cnf.specs.Meaning.{Pairwise, Kept, kept_from, kept_among, argument_count, predicate_of, function_of, IsTreeOf, AreTreesOf, IsLiteralOf, literal_terms, applications_among}
 use Rattle.pm_cnf.specs.Inside.Parts.{is_argument, IsArgument, IsPartOf, part_leaf, trees_of, applications_of, AreWellFormed, terms_among, Tables, Grows, AreNumbered}
-use Rattle.pm_cnf.proofs.meaning.Gathering.{Extends, slice_get-extends, Gathers-extends, Pairwise-append, Pairwise-weaker}
+use Rattle.pm_cnf.proofs.meaning.Pairs.{Pairwise-append, Pairwise-weaker}
 use Rattle.pm_cnf.proofs.parts.PartTrees.{ArgumentTrees, argument_trees}
 use Rattle.pm_cnf.proofs.parts.Building.{trees_at-extends, rows-extend}
 use Rattle.pm_cnf.proofs.parts.VariableRows.{variable_count-extends}

@@ -10,6 +10,7 @@ use Rattle.pm_logic.specs.declared.problem.Literal.{Literal}
 use Rattle.pm_logic.specs.Problem.{Symbol, Numbers, IsPrintable}
 use Rattle.pm_logic.specs.Term.{as_terms, tree_at}
 use Rattle.pm_logic.specs.View.{literal_of}
+use Rattle.pm_logic.proofs.Gathering.{Gathers-one, Gathers-length}
 use Rattle.pm_cnf.specs.declared.item.Word.{Word}
 use Rattle.pm_cnf.specs.declared.item.Node as code
 use Rattle.pm_cnf.specs.declared.item.Node.TheVariants as nodes
@@ -19,7 +20,6 @@ use Rattle.pm_cnf.specs.Inside.Draft.{Node, arguments_nodes, literal_nodes}
 use Rattle.pm_cnf.specs.Meaning.{AreTreesOf, kept_among}
 use Rattle.pm_cnf.specs.Inside.Parsed.{word_of, node_of}
 use Rattle.pm_cnf.specs.Inside.Parts.{is_argument, IsArgument, terms_among, Tables, Grows, AreNumbered, ArePrintable}
-use Rattle.pm_cnf.proofs.meaning.Gathering.{Gathers-one, Gathers-length}
 use Rattle.pm_cnf.proofs.parts.Tabling.{printable-append}
 use Rattle.pm_cnf.proofs.parts.LiteralSteps.{LiteralsSoFar, next_arguments, room_so_far, literals_kept, literals_constant, no_literal, all_numbered}
 

@@ -10,6 +10,7 @@ use Rattle.pm_logic.specs.Problem.{IsPrintable, IsValid}
 use Rattle.pm_logic.specs.Term as tree
 use Rattle.pm_logic.specs.View.{clause_of}
 use Rattle.pm_logic.specs.declared.problem.Clause.{Clause}
+use Rattle.pm_logic.proofs.Gathering.{Extends, Gathers-extends}
 use Rattle.pm_cnf.specs.declared.item.Item as code
 use Rattle.pm_cnf.specs.declared.item.Node as code_node
 use Rattle.pm_cnf.specs.Grammar.{Item}
@@ -18,7 +19,6 @@ use Rattle.pm_cnf.specs.Meaning.{literals_of, item_symbols}
 use Rattle.pm_cnf.specs.Inside.Readable.{HasPrintableName, AreReadable}
 use Rattle.pm_cnf.specs.Inside.Parsed.{name_of, node_of, item_of}
 use Rattle.pm_cnf.specs.Inside.Parts.{node_symbol, node_holds, ArePrintable, IsNumbered}
-use Rattle.pm_cnf.proofs.meaning.Gathering.{Extends, Gathers-extends}
 use Rattle.pm_cnf.proofs.parts.ItemSteps.{literals_symbols, all-map, ItemsSoFar}
 use Rattle.pm_cnf.proofs.meaning.ValidItems.{problem_valid}
 

@@ -15,14 +15,16 @@ use Rattle.pm_logic.specs.Problem.{Symbol, Numbers, IsPrintable}
 use Rattle.pm_logic.specs.Term.{Term, var}
 use Rattle.pm_logic.specs.Table.{variable_count}
 use Rattle.pm_logic.proofs.ListLemmas.{Contains-from, slice_get-push}
+use Rattle.pm_logic.specs.Lists.{Gathers}
+use Rattle.pm_logic.proofs.Gathering.{Extends, slice_get-extends, Gathers-one, Gathers-append, Gathers-extends, Gathers-length}
 use Rattle.pm_cnf.specs.declared.number.Part.{Part}
 use Rattle.pm_cnf.specs.declared.number.Part.TheVariants as parts
 use Rattle.pm_cnf.specs.Grammar.{Word, word_text}
 use Rattle.pm_cnf.specs.Inside.Draft.{Node, predicate_node, constant_node, function_node, variable_node}
 use Rattle.pm_cnf.specs.Offences.{with_text}
-use Rattle.pm_cnf.specs.Meaning.{Gathers, Pairwise, with_texts}
+use Rattle.pm_cnf.specs.Meaning.{Pairwise, with_texts}
 use Rattle.pm_cnf.specs.Inside.Parts.{IsPartOf, part_leaf, node_symbol, node_text, Tables, Grows, ArePrintable}
-use Rattle.pm_cnf.proofs.meaning.Gathering.{Extends, slice_get-extends, Gathers-extends, Gathers-one, Gathers-append, Gathers-length, Pairwise-append, Pairwise-weaker}
+use Rattle.pm_cnf.proofs.meaning.Pairs.{Pairwise-append, Pairwise-weaker}
 use Rattle.pm_cnf.proofs.parts.TextLemmas.{with_texts-extends, with_texts-append}
 use Rattle.pm_cnf.proofs.parts.VariableRows.{variable_count-extends}
 

@@ -8,10 +8,10 @@ use Rattle.std.specs.Str.{bytes_eq}
 use Rattle.std.proofs.lemmas.List.{length_push, map_push}
 use Rattle.std.proofs.lemmas.Option.{slice_get-map}
 use Rattle.std.proofs.lemmas.Slice.Eq.{bytes_eq-Decides}
+use Rattle.pm_logic.proofs.Gathering.{Extends, Extends-refl, Extends-trans}
 use Rattle.pm_cnf.specs.Offences.{with_text}
 use Rattle.pm_cnf.specs.Meaning.{with_texts}
 use Rattle.pm_cnf.specs.Inside.Parts.{texts_of}
-use Rattle.pm_cnf.proofs.meaning.Gathering.{Extends, Extends-refl, Extends-trans}
 
 pub any_text : (same : Bor (List ℕ) → Bor (List ℕ) → Bool) → ((x y : Bor (List ℕ)) → same x y ≡ bytes_eq x.now y.now) → (text : Bor (List ℕ)) (keys : List (Bor (List ℕ)))
     → list_any (same text) keys ≡ list_any (bytes_eq text.now) (texts_of keys)

@@ -7,9 +7,9 @@ use Rattle.pm_logic.specs.Term.{Term, Terms, var, app}
 use Rattle.pm_logic.specs.Table.{variable_count}
 use Rattle.pm_logic.proofs.ListLemmas.{Contains-from, Contains-push, slice_get-push, slice_get-last, below_or_last}
 use Rattle.pm_logic.proofs.TableLemmas.{variable_count-push}
-use Rattle.pm_cnf.specs.Meaning.{Gathers}
+use Rattle.pm_logic.specs.Lists.{Gathers}
+use Rattle.pm_logic.proofs.Gathering.{Extends, slice_get-extends}
 use Rattle.pm_cnf.specs.Inside.Parts.{AreVariables}
-use Rattle.pm_cnf.proofs.meaning.Gathering.{Extends, slice_get-extends}
 
 pub known_variable : (terms : List Term) (rows : List ℕ) (n : ℕ) → AreVariables terms rows → n < length rows → Contains terms (var n)
 known_variable terms rows n are lt = Contains-from terms (get_or rows n 0) (var n) (are.stand n (get_or rows n 0) (slice_get-get_or rows n 0 lt))

@@ -7,10 +7,12 @@ use Rattle.std.proofs.lemmas.List.Elements.{recursion_from_All, All-filter, All-
 use Rattle.std.proofs.lemmas.Option.{same_Some, slice_get_within}
 use Rattle.pm_logic.specs.Problem as logic
 use Rattle.pm_logic.specs.Problem.{IsPrintable}
+use Rattle.pm_logic.specs.Lists.{Gathers}
+use Rattle.pm_logic.proofs.Gathering.{Gathers-all}
 use Rattle.pm_cnf.specs.declared.limits.Limits.{Limits}
 use Rattle.pm_cnf.specs.Lexemes.{Token}
 use Rattle.pm_cnf.specs.Grammar.{Name, word, integer, Item, AreItems, IsName, Formula, in_parentheses, disjunction, Atom, predicate, truth, falsity, Literal, item_places, file_places, tokens_of}
-use Rattle.pm_cnf.specs.Meaning.{Gathers, Pairwise, literals_of, is_kept, kept_items, Kept, kept_from, kept_among, kept_literals, literal_symbols, item_variables, with_texts, IsClauseOf, IsProblemIn, item_symbols}
+use Rattle.pm_cnf.specs.Meaning.{Pairwise, literals_of, is_kept, kept_items, Kept, kept_from, kept_among, kept_literals, literal_symbols, item_variables, with_texts, IsClauseOf, IsProblemIn, item_symbols}
 use Rattle.pm_cnf.specs.Text.{variable_text, clause_text, problem_text}
 use Rattle.pm_cnf.proofs.offences.Within.{Within, sound_within, within_sound, file_within}
 use Rattle.pm_cnf.proofs.parsed.Kept.{HaveForm, HavePrintableTexts, form_append, printable_append, items_printable, file_formed}
@@ -20,7 +22,6 @@ use Rattle.pm_cnf.proofs.written.WrittenItems.{rename, plain_name, rewritten, Is
 use Rattle.pm_cnf.proofs.written.WrittenLimits.{CanWrite, file_goes}
 use Rattle.pm_cnf.proofs.written.WrittenProblem.{variables_once, place_is, new_variables, item_renamed, problem_rewritten}
 use Rattle.pm_cnf.proofs.meaning.ValidItems.{kept_few}
-use Rattle.pm_cnf.proofs.meaning.Gathering.{Gathers-all}
 
 -- ---- lists
 

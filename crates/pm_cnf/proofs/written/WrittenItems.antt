@@ -7,7 +7,7 @@ use Rattle.std.specs.Str.{bytes_eq}
 use Rattle.pm_logic.specs.Problem as logic
 use Rattle.pm_logic.specs.Problem.{IsPrintable}
 use Rattle.pm_logic.specs.Term as tree
-use Rattle.pm_logic.specs.Word.{is_word_byte, written_word}
+use Rattle.pm_logic.specs.Word.{written_symbol, is_word_byte, written_word}
 use Rattle.pm_cnf.specs.declared.token.Mark.TheVariants.{OpenParenthesis, CloseParenthesis, Comma, FullStop, Bar, Tilde}
 use Rattle.pm_cnf.specs.Lexemes.{Token, lower, upper, dollar, mark, begins}
 use Rattle.pm_cnf.specs.Grammar.{word_text, Term, variable, application, Arguments, no_arguments, more_arguments, predicate, falsity, Literal, Formula, in_parentheses, disjunction, Name, word, integer, Item, Begins, an_atom, a_literal, Placed, only, word_token, term_places, arguments_places, others_places, atom_places, literal_places, others_joined, formula_places, ending_places, name_token, item_places, tokens_of, IsName}
@@ -64,10 +64,10 @@ reads_parts : (a b rest last : List ℕ) (ps qs : List Placed) (ts : List Token)
 reads_parts a b rest last ps qs ts h = subst (λ (us : List Token). HasTokens ((a ++ b) ++ rest) us last) (sym (tokens_then ps qs ts)) (reads_assoc a b rest last (tokens_of ps ++ (tokens_of qs ++ ts)) h)
 
 module _ (symbols : List logic.Symbol) (printable : (f : ℕ) (s : logic.Symbol) → slice_get symbols f ≡ Some s → IsPrintable s.text) where
-  symbol_reads : (f : ℕ) (s : logic.Symbol) (rest last : List ℕ) (ts : List Token) → slice_get symbols f ≡ Some s → begins is_word_byte rest ≡ false → HasTokens rest ts last
+  symbol_reads : (f : ℕ) (s : logic.Symbol) (rest last : List ℕ) (ts : List Token) → slice_get symbols f ≡ Some s → written_symbol s ≡ written_word s.text → begins is_word_byte rest ≡ false → HasTokens rest ts last
       → HasTokens (symbol_text symbols f ++ rest) (word_token (plain_word s.text) ∷ ts) last
-  symbol_reads f s rest last ts is stop more =
-      subst (λ (text : List ℕ). HasTokens (text ++ rest) (word_token (plain_word s.text) ∷ ts) last) (sym (ap (λ (o : Option logic.Symbol). option_map_or (λ symbol. written_word symbol.text) o []) is))
+  symbol_reads f s rest last ts is as_word stop more =
+      subst (λ (text : List ℕ). HasTokens (text ++ rest) (word_token (plain_word s.text) ∷ ts) last) (sym (ap (λ (o : Option logic.Symbol). option_map_or written_symbol o []) is ∙ as_word))
       (word_reads s.text rest last ts (printable f s is) stop more)
 
   others_stop : (us : tree.Terms) (rest : List ℕ) → begins is_word_byte (others_text symbols us ++ rest) ≡ false
@@ -89,7 +89,7 @@ module _ (symbols : List logic.Symbol) (printable : (f : ℕ) (s : logic.Symbol)
       term_reads (application w args) (tree.var k) nesting n rest last ts is stop more = absurd is
       term_reads (application w args) (tree.app f us) nesting n rest last ts is stop more =
           reads_assoc (symbol_text symbols f) (arguments_text symbols us) rest last (word_token (plain_word (word_text w)) ∷ (tokens_of (arguments_places (suc nesting) (renamed_all new args)) ++ ts))
-          (symbol_reads f (function_of w args) (arguments_text symbols us ++ rest) last (tokens_of (arguments_places (suc nesting) (renamed_all new args)) ++ ts) is.0 (arguments_stop us rest stop)
+          (symbol_reads f (function_of w args) (arguments_text symbols us ++ rest) last (tokens_of (arguments_places (suc nesting) (renamed_all new args)) ++ ts) is.0 refl (arguments_stop us rest stop)
           (arguments_read args us (suc nesting) rest last ts is.1 stop more))
 
       arguments_read : (args : Arguments) (us : tree.Terms) (nesting : ℕ) (rest last : List ℕ) (ts : List Token) → AreTreesOf symbols variables args us → begins is_word_byte rest ≡ false → HasTokens rest ts last
@@ -117,7 +117,7 @@ module _ (symbols : List logic.Symbol) (printable : (f : ℕ) (s : logic.Symbol)
     atom_reads k l b rest last ts is stop more =
         let arguments : List Token = tokens_of (arguments_places 1 (renamed_all new k.args)) ++ ts in
         reads_assoc (symbol_text symbols l.predicate) (arguments_text symbols (tree.as_terms l.args)) rest last (word_token (plain_word (word_text k.predicate)) ∷ arguments)
-        (symbol_reads l.predicate (predicate_of k.predicate k.args) (arguments_text symbols (tree.as_terms l.args) ++ rest) last arguments is.symbol (arguments_stop (tree.as_terms l.args) rest stop)
+        (symbol_reads l.predicate (predicate_of k.predicate k.args) (arguments_text symbols (tree.as_terms l.args) ++ rest) last arguments is.symbol refl (arguments_stop (tree.as_terms l.args) rest stop)
         (arguments_read k.args (tree.as_terms l.args) 1 rest last ts is.terms stop more))
 
     literal_reads : (k : Kept) (l : logic.Literal) (n : ℕ) (rest last : List ℕ) (ts : List Token) → IsLiteralOf symbols variables k l → begins is_word_byte rest ≡ false → HasTokens rest ts last

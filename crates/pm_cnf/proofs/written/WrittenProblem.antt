@@ -12,10 +12,11 @@ use Rattle.std.proofs.lemmas.Slice.Eq.{bytes_eq-Decides}
 use Rattle.pm_logic.specs.Problem as logic
 use Rattle.pm_logic.specs.Term as tree
 use Rattle.pm_logic.specs.Word.{is_lower_word}
+use Rattle.pm_logic.specs.Lists.{Gathers}
 use Rattle.pm_cnf.specs.Grammar.{Word, bare, between_quotes, word_text, Term, variable, application, Arguments, no_arguments, more_arguments, Name, word, integer, Item}
 use Rattle.pm_cnf.specs.Offences.{with_text}
-use Rattle.pm_cnf.specs.Meaning.{Gathers, Pairwise, literals_of, holds_always, kept_items, Kept, kept_among, kept_literals, argument_count, function_of, predicate_of, symbols_in, symbols_among, variables_in, variables_among, literal_symbols, with_texts, item_variables, IsTreeOf, AreTreesOf, IsLiteralOf, label_of, IsClauseOf, IsProblemOf}
-use Rattle.pm_cnf.proofs.meaning.GatheredOnce.{HoldsOnce, once_nil, with_texts_once}
+use Rattle.pm_cnf.specs.Meaning.{Pairwise, literals_of, holds_always, kept_items, Kept, kept_among, kept_literals, argument_count, function_of, predicate_of, symbols_in, symbols_among, variables_in, variables_among, literal_symbols, with_texts, item_variables, IsTreeOf, AreTreesOf, IsLiteralOf, label_of, IsClauseOf, IsProblemOf}
+use Rattle.pm_cnf.proofs.meaning.GatheredOnce.{HoldsOnce, with_texts_once}
 use Rattle.pm_cnf.proofs.written.Limited.{variables_of}
 use Rattle.pm_cnf.proofs.written.WrittenWords.{plain_word}
 use Rattle.pm_cnf.proofs.written.WrittenItems.{place_of, rename, renamed, renamed_all, literal_from, formula_from, plain_name, rewritten}
@@ -233,7 +234,7 @@ module _ (new : List ℕ → List ℕ) where
 -- ---- items
 
 pub variables_once : (item : Item) → HoldsOnce (item_variables item)
-variables_once item = with_texts_once [] (variables_of (kept_literals item)) once_nil
+variables_once item = with_texts_once (variables_of (kept_literals item))
 
 -- the different variables of an item, renamed, are those of the renamed ones
 pub item_renamed : (item : Item) → length (item_variables item) ≤ 10 ^ 64

@@ -6,11 +6,12 @@ use Rattle.pm_logic.specs.declared.symbols.Kind.TheVariants.{Predicate, Function
 use Rattle.pm_logic.specs.Problem.{Symbol, Literal, Clause, IsPrintable}
 use Rattle.pm_logic.specs.Term.{Term, var, app, as_terms}
 use Rattle.pm_logic.specs.Table.{variable_count}
+use Rattle.pm_logic.specs.Lists.{Gathers}
 use Rattle.pm_cnf.specs.declared.number.Part.{Part}
 use Rattle.pm_cnf.specs.declared.number.Part.TheVariants as parts
 use Rattle.pm_cnf.specs.Grammar.{word_text, Item}
 use Rattle.pm_cnf.specs.Inside.Draft.{Node, predicate_node, constant_node, function_node, variable_node}
-use Rattle.pm_cnf.specs.Meaning.{Gathers, Pairwise, with_texts, Kept, IsLiteralOf, IsClauseOf, leaves_among, applications_among, literal_terms, clause_terms, item_symbols}
+use Rattle.pm_cnf.specs.Meaning.{Pairwise, with_texts, Kept, IsLiteralOf, IsClauseOf, leaves_among, applications_among, literal_terms, clause_terms, item_symbols}
 
 -- whether the node is of a term
 abbrev pub is_argument : Node → Bool

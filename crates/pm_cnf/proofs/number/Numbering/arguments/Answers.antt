@@ -1,8 +1,8 @@
 use Rattle.std.proofs.Common.{List, sym, ap, subst, ◌∙◌}
 use Rattle.std.specs.Prelude.{All, map}
 use Rattle.pm_logic.specs.Table.{variable_count}
+use Rattle.pm_logic.specs.Lists.{Gathers}
 use Rattle.pm_cnf.specs.declared.number.Part.{Part}
-use Rattle.pm_cnf.specs.Meaning.{Gathers}
 use Rattle.pm_cnf.specs.Inside.Parsed.{node_of}
 use Rattle.pm_cnf.specs.Inside.Parts.{IsArgument, AreWellFormed, applications_of, trees_of, tables}
 use Rattle.pm_cnf.proofs.parts.Tabling.{AreParts}

@@ -5,7 +5,7 @@ use Rattle.std.proofs.lemmas.Option.{slice_get_within}
 use denote.Enum.Bare.{same_true, same_false}
 use Rattle.pm_logic.specs.contracts.symbols.Kind.{the_type}
 use Rattle.pm_logic.specs.Problem.{Symbol}
-use Rattle.pm_logic.specs.Index.{symbol_of}
+use Rattle.pm_logic.specs.Inside.Index.{symbol_of}
 use Rattle.pm_logic.proofs.IndexLemmas.{of_text-sound, of_text-complete, numbers_of-found, numbers_of-absent, row_found, row_arity, row_kind}
 use Rattle.pm_logic.proofs.symbols.Symbols.find.Goals as goal
 use Rattle.pm_logic.proofs.symbols.Symbols.find.Goals.{else-row-arity-via-then-row-arity+else-eq, else-row-arity-via-else-row-arity}

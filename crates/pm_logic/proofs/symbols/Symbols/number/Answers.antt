@@ -2,7 +2,7 @@ use Rattle.std.proofs.Common.{◌<◌, ◌+◌, ◌^◌, ◌++◌, List, [], ◌
 use Rattle.std.specs.Prelude.{Contains}
 use Rattle.pm_logic.specs.declared.symbols.Symbol.{Symbol as Row}
 use Rattle.pm_logic.specs.Problem.{Symbol}
-use Rattle.pm_logic.specs.Index.{symbol_of, IsIndexed}
+use Rattle.pm_logic.specs.Inside.Index.{symbol_of, IsIndexed}
 use Rattle.pm_logic.proofs.IndexLemmas.{symbols-push, Numbers-new, IsIndexed-push}
 use Rattle.pm_logic.proofs.symbols.Symbols.number.Goals as goal
 

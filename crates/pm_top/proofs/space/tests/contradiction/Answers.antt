@@ -3,12 +3,12 @@ use Rattle.std.specs.Prelude.{All, Contains}
 use Rattle.std.proofs.lemmas.List.{length-map}
 use Rattle.std.proofs.lemmas.List.Elements.{All-nil, All-cons, All-map}
 use Rattle.pm_logic.specs.declared.problem.Clause.{Clause}
-use Rattle.pm_logic.specs.declared.symbols.Kind.TheVariants.{Predicate}
+use Rattle.pm_logic.specs.declared.symbols.Kind.TheVariants.{Predicate, Equality}
 use Rattle.pm_logic.specs.Term.{Term, tree_at}
 use Rattle.pm_logic.specs.Problem as spec
-use Rattle.pm_logic.specs.Problem.{Symbol, Numbers, HasShape, IsTermOver, IsLiteralOver, IsClauseOver, IsPrintable, IsValid}
+use Rattle.pm_logic.specs.Problem.{Symbol, Numbers, HasShape, IsTermOver, IsLiteralOver, IsClauseOver, IsPrintable, IsEquality, IsValid}
 use Rattle.pm_logic.specs.View.{HasRows, literal_of, clause_of}
-use Rattle.pm_top.specs.Drawn.{IsBare, HasNoArguments}
+use Rattle.pm_top.specs.Arguments.{IsBare, HasNoArguments}
 use Rattle.pm_top.proofs.space.tests.contradiction.Goals as goal
 
 -- the clause of one literal, the symbol 0 with no arguments
@@ -27,8 +27,8 @@ valid_unit symbols terms u shape h = record {
   literals = All-map (IsLiteralOver symbols u.vars) (literal_of terms) u.literals.items (λ k d within. record {
     predicate =
         let P : ℕ → ℕ → Type 0 = λ number arity. HasShape symbols number Predicate arity in
-        subst (λ number. P number (length (map (tree_at terms) (get_or u.literals.items k d).args.items))) (sym (h.symbol k d within))
-        (subst (λ args. P 0 (length (map (tree_at terms) args))) (sym (h.args k d within)) shape);
+        inl (subst (λ number. P number (length (map (tree_at terms) (get_or u.literals.items k d).args.items))) (sym (h.symbol k d within))
+        (subst (λ args. P 0 (length (map (tree_at terms) args))) (sym (h.args k d within)) shape));
     args = subst (λ args. All (IsTermOver symbols u.vars) (map (tree_at terms) args)) (sym (h.args k d within)) (All-nil (IsTermOver symbols u.vars));
   });
 }
@@ -55,6 +55,8 @@ valid_units symbols terms clauses u v is are first second =
     record {
       few = subst (λ (cs : List Clause). length (map (clause_of terms) cs) ≤ 65536) (sym are) (lit≤ tt);
       texts = subst (λ symbols. All (λ s. IsPrintable s.text) symbols) (sym is) (All-cons (λ s. IsPrintable s.text) p [] IsPrintable-p (All-nil (λ s. IsPrintable s.text)));
+      equality = subst (λ symbols. All (λ s. s.kind ≡ Equality → IsEquality s) symbols) (sym is)
+          (All-cons (λ s. s.kind ≡ Equality → IsEquality s) p [] (λ same. absurd cc) (All-nil (λ s. s.kind ≡ Equality → IsEquality s)));
       clauses = subst (λ (cs : List Clause). All P (map (clause_of terms) cs)) (sym are)
           (All-cons P (clause_of terms u) (clause_of terms v ∷ []) (valid_unit symbols terms u shape first)
           (All-cons P (clause_of terms v) [] (valid_unit symbols terms v shape second) (All-nil P)));

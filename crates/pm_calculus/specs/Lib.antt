@@ -1,0 +1,9 @@
+pub mod Substitution
+pub mod Connection
+pub mod Skeleton
+pub mod Alternatives
+pub mod Choices
+pub mod Agreement
+pub mod Truth
+pub mod Laws
+pub mod Examples

@@ -1,5 +1,0 @@
-use Rattle.pm_logic.proofs.Prefixes.{choice_below_width}
-use Rattle.pm_logic.proofs.laws.choices_are_below_widths.Goals as goal
-
-pub returns : goal.returns
-returns c = choice_below_width

@@ -1,5 +1,0 @@
-use Rattle.pm_logic.proofs.Growth.{complete_ends}
-use Rattle.pm_logic.proofs.laws.complete_lists_end.Goals as goal
-
-pub returns : goal.returns
-returns c = complete_ends

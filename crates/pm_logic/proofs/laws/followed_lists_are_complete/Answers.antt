@@ -1,5 +1,0 @@
-use Rattle.pm_logic.proofs.Levels.{followed_complete}
-use Rattle.pm_logic.proofs.laws.followed_lists_are_complete.Goals as goal
-
-pub returns : goal.returns
-returns c = followed_complete

@@ -1,5 +1,0 @@
-use Rattle.pm_logic.proofs.Prefixes.{prefix_reached}
-use Rattle.pm_logic.proofs.laws.prefixes_are_reached.Goals as goal
-
-pub returns : goal.returns
-returns c = prefix_reached

@@ -1,5 +1,0 @@
-use Rattle.pm_logic.proofs.Instances.{regular_reflects}
-use Rattle.pm_logic.proofs.laws.regularity_reflects.Goals as goal
-
-pub returns : goal.returns
-returns c = regular_reflects

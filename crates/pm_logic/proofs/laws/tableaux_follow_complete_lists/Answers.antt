@@ -1,5 +1,0 @@
-use Rattle.pm_logic.proofs.TreesToLists.{tableau_follows}
-use Rattle.pm_logic.proofs.laws.tableaux_follow_complete_lists.Goals as goal
-
-pub returns : goal.returns
-returns c = tableau_follows

@@ -1,0 +1,2 @@
+-- Models of private code: no public contract names them.
+pub mod Faults
