@@ -65,9 +65,9 @@ pub record Item : Type 0 where
   pub formula : Formula
   pub annotations : Option Annotations
 
--- What a token begins: an item, by the number of those before it; a literal, by the number of those before
--- it in its item; the atom after a ~; a term among arguments, by the number of those before it and its
--- nesting; or, for the bar between two literals, the next one.
+-- What a token begins: an item, by the number of those before it; a literal, by the number of those
+-- before it in its item; the atom after a ~; a term among arguments, by the number of those before
+-- it and its nesting; or, for the bar between two literals, the next one.
 pub data Begins : Type 0 where
   nothing : Begins
   an_item : ℕ → Begins
@@ -91,15 +91,18 @@ word_token (between_quotes text) = quoted text
 abbrev mutual
   pub term_places : ℕ → ℕ → Term → List Placed
   term_places nesting n (variable text) = (upper text, an_argument n nesting) ∷ []
-  term_places nesting n (application w args) = (word_token w, an_argument n nesting) ∷ arguments_places (suc nesting) args
+  term_places nesting n (application w args) =
+      (word_token w, an_argument n nesting) ∷ arguments_places (suc nesting) args
 
   pub arguments_places : ℕ → Arguments → List Placed
   arguments_places nesting no_arguments = []
-  arguments_places nesting (more_arguments t ts) = only OpenParenthesis ∷ (term_places nesting 0 t ++ others_places nesting 1 ts)
+  arguments_places nesting (more_arguments t ts) =
+      only OpenParenthesis ∷ (term_places nesting 0 t ++ others_places nesting 1 ts)
 
   pub others_places : ℕ → ℕ → Arguments → List Placed
   others_places nesting n no_arguments = only CloseParenthesis ∷ []
-  others_places nesting n (more_arguments t ts) = only Comma ∷ (term_places nesting n t ++ others_places nesting (suc n) ts)
+  others_places nesting n (more_arguments t ts) =
+      only Comma ∷ (term_places nesting n t ++ others_places nesting (suc n) ts)
 
 abbrev pub atom_places : Begins → Atom → List Placed
 atom_places begun (predicate w args) = (word_token w, begun) ∷ arguments_places 1 args
@@ -113,10 +116,12 @@ literal_places n literal =
 
 abbrev pub others_joined : ℕ → List Literal → List Placed
 others_joined n [] = []
-others_joined n (literal ∷ literals) = (mark Bar, a_next_literal) ∷ (literal_places n literal ++ others_joined (suc n) literals)
+others_joined n (literal ∷ literals) =
+    (mark Bar, a_next_literal) ∷ (literal_places n literal ++ others_joined (suc n) literals)
 
 abbrev pub formula_places : Formula → List Placed
-formula_places (in_parentheses formula) = only OpenParenthesis ∷ (formula_places formula ++ only CloseParenthesis ∷ [])
+formula_places (in_parentheses formula) =
+    only OpenParenthesis ∷ (formula_places formula ++ only CloseParenthesis ∷ [])
 formula_places (disjunction first others) = literal_places 0 first ++ others_joined 1 others
 
 abbrev pub opening : Bracket → Mark
@@ -132,7 +137,8 @@ closing braces = CloseBrace
 abbrev pub annotations_places : Annotations → List Placed
 annotations_places no_more = []
 annotations_places (plain t ts) = (t, nothing) ∷ annotations_places ts
-annotations_places (group b inside ts) = only (opening b) ∷ (annotations_places inside ++ only (closing b) ∷ annotations_places ts)
+annotations_places (group b inside ts) =
+    only (opening b) ∷ (annotations_places inside ++ only (closing b) ∷ annotations_places ts)
 
 abbrev pub name_token : Name → Token
 name_token (word w) = word_token w
@@ -140,12 +146,15 @@ name_token (integer digits) = number digits
 
 abbrev pub ending_places : Option Annotations → List Placed
 ending_places None = only CloseParenthesis ∷ only FullStop ∷ []
-ending_places (Some ts) = only Comma ∷ (annotations_places ts ++ only CloseParenthesis ∷ only FullStop ∷ [])
+ending_places (Some ts) =
+    only Comma ∷ (annotations_places ts ++ only CloseParenthesis ∷ only FullStop ∷ [])
 
 abbrev pub item_places : ℕ → Item → List Placed
 item_places n item =
-    (lower (codes "cnf"), an_item n) ∷ only OpenParenthesis ∷ (name_token item.name, nothing) ∷ only Comma
-    ∷ (lower item.role, nothing) ∷ only Comma ∷ (formula_places item.formula ++ ending_places item.annotations)
+    (lower (codes "cnf"), an_item n) ∷ only OpenParenthesis
+    ∷ (name_token item.name, nothing) ∷ only Comma
+    ∷ (lower item.role, nothing) ∷ only Comma
+    ∷ (formula_places item.formula ++ ending_places item.annotations)
 
 -- a file is items, the first of them with so many before it
 abbrev pub file_places : ℕ → List Item → List Placed
@@ -157,19 +166,19 @@ abbrev pub tokens_of : List Placed → List Token
 tokens_of = map (λ place. place.0)
 
 -- any token but a full stop, and neither an opening nor a closing mark
-abbrev pub is_plain : Token → Bool
-is_plain (mark OpenParenthesis) = false
-is_plain (mark CloseParenthesis) = false
-is_plain (mark OpenBracket) = false
-is_plain (mark CloseBracket) = false
-is_plain (mark OpenBrace) = false
-is_plain (mark CloseBrace) = false
-is_plain (mark FullStop) = false
-is_plain t = true
+abbrev pub is_plain_token : Token → Bool
+is_plain_token (mark OpenParenthesis) = false
+is_plain_token (mark CloseParenthesis) = false
+is_plain_token (mark OpenBracket) = false
+is_plain_token (mark CloseBracket) = false
+is_plain_token (mark OpenBrace) = false
+is_plain_token (mark CloseBrace) = false
+is_plain_token (mark FullStop) = false
+is_plain_token t = true
 
 abbrev pub AreAnnotations : Annotations → Type 0
 AreAnnotations no_more = Unit {0}
-AreAnnotations (plain t ts) = IsTrue (is_plain t) × AreAnnotations ts
+AreAnnotations (plain t ts) = IsTrue (is_plain_token t) × AreAnnotations ts
 AreAnnotations (group b inside ts) = AreAnnotations inside × AreAnnotations ts
 
 -- one or more tokens

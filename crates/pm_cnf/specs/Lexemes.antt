@@ -1,10 +1,9 @@
 -- Tokens and what stands between them, as bytes: each form is as long as it can be.
-use Rattle.std.specs.Prelude.{◌≡◌, ℕ, suc, ◌+◌, ◌&&◌, ◌||◌, ◌==◌, Bool, IsTrue, false, not, cond, if◌then◌else◌, List, [], ◌∷◌, take, drop, nat_le, filter, reverse, codes, Option, Some, None, length}
-use Rattle.std.specs.List.{list_any, list_all, prefix_len}
+use Rattle.std.specs.Prelude.{◌≡◌, ℕ, suc, ◌+◌, ◌&&◌, ◌||◌, ◌==◌, Bool, false, not, cond, if◌then◌else◌, List, [], ◌∷◌, take, drop, nat_le, filter, reverse, codes, Option, Some, None, length}
+use Rattle.std.specs.List.{list_any, prefix_len}
 use Rattle.std.specs.Option.{option_map}
 use Rattle.std.specs.Char.{is_ascii_digit, is_ascii_lowercase, is_ascii_uppercase}
-use Rattle.pm_logic.specs.Word.{is_word_byte, is_lower_word}
-use Rattle.pm_logic.specs.Problem.{IsPrintable}
+use Rattle.pm_logic.specs.Word.{is_word_byte}
 use Rattle.pm_cnf.specs.declared.error.CnfKind.{CnfKind}
 use Rattle.pm_cnf.specs.declared.error.CnfKind.TheVariants.{BadByte, BadToken, UnclosedComment, UnclosedQuote}
 use Rattle.pm_cnf.specs.declared.token.Mark.{Mark}
@@ -29,7 +28,8 @@ pub data Lexeme : Type 0 where
 
 -- tab to carriage return, and space
 abbrev pub is_blank : ℕ → Bool
-is_blank byte = (byte == 9) || (byte == 10) || (byte == 11) || (byte == 12) || (byte == 13) || (byte == 32)
+is_blank byte =
+    (byte == 9) || (byte == 10) || (byte == 11) || (byte == 12) || (byte == 13) || (byte == 32)
 
 -- the first byte is there and passes the test
 abbrev pub begins : (ℕ → Bool) → List ℕ → Bool
@@ -67,7 +67,8 @@ is_exponent_mark byte = (byte == 101) || (byte == 69)
 -- The number of bytes up to and with the first */, which is there.
 abbrev pub comment_len : List ℕ → Option ℕ
 comment_len [] = None
-comment_len (byte ∷ bytes) = if is_star byte && begins is_slash bytes then Some 2 else option_map suc (comment_len bytes)
+comment_len (byte ∷ bytes) =
+    if is_star byte && begins is_slash bytes then Some 2 else option_map suc (comment_len bytes)
 
 -- one or more digits are taken, or none
 abbrev pub digits_len : List ℕ → ℕ
@@ -78,7 +79,9 @@ sign_len bytes = cond (begins is_sign bytes) 1 0
 
 -- a . or / with one or more digits after it
 abbrev pub fraction_len : List ℕ → ℕ
-fraction_len bytes = cond (begins is_fraction_mark bytes && begins is_ascii_digit (drop 1 bytes)) (1 + digits_len (drop 1 bytes)) 0
+fraction_len bytes =
+    cond (begins is_fraction_mark bytes && begins is_ascii_digit (drop 1 bytes))
+    (1 + digits_len (drop 1 bytes)) 0
 
 -- a digit, or a sign and a digit
 abbrev pub begins_number : List ℕ → Bool
@@ -90,7 +93,9 @@ integer_len bytes = sign_len bytes + digits_len (drop (sign_len bytes) bytes)
 
 -- e or E, a sign or none, and one or more digits
 abbrev pub exponent_len : List ℕ → ℕ
-exponent_len bytes = cond (begins is_exponent_mark bytes && begins_number (drop 1 bytes)) (1 + integer_len (drop 1 bytes)) 0
+exponent_len bytes =
+    cond (begins is_exponent_mark bytes && begins_number (drop 1 bytes))
+    (1 + integer_len (drop 1 bytes)) 0
 
 -- a sign or none, digits, and a fraction where it is whole; then an exponent where it is whole
 abbrev pub decimal_len : List ℕ → ℕ
@@ -98,6 +103,9 @@ decimal_len bytes = integer_len bytes + fraction_len (drop (integer_len bytes) b
 
 abbrev pub number_len : List ℕ → ℕ
 number_len bytes = decimal_len bytes + exponent_len (drop (decimal_len bytes) bytes)
+
+abbrev pub number_at : List ℕ → Lexeme × ℕ
+number_at bytes = (token (number (take (number_len bytes) bytes)), number_len bytes)
 
 -- how the characters of a quoted word or of a distinct object end
 pub data Ending : Type 0 where
@@ -111,16 +119,17 @@ later n spoilt = spoilt
 later n unclosed = unclosed
 
 -- a byte from 32 to 126 that isn't \
-abbrev pub is_plain : ℕ → Bool
-is_plain byte = nat_le 32 byte && nat_le byte 126 && not (byte == 92)
+abbrev pub is_plain_byte : ℕ → Bool
+is_plain_byte byte = nat_le 32 byte && nat_le byte 126 && not (byte == 92)
 
 -- The characters up to the closing mark: a plain byte, or \ with the closing mark or \ after it.
 abbrev pub ending : ℕ → List ℕ → Ending
 ending close [] = unclosed
-ending close (byte ∷ []) = if byte == close then closed 0 else if is_plain byte then unclosed else spoilt
+ending close (byte ∷ []) =
+    if byte == close then closed 0 else if is_plain_byte byte then unclosed else spoilt
 ending close (byte ∷ next ∷ bytes) =
     if byte == close then closed 0
-    else if is_plain byte then later 1 (ending close (next ∷ bytes))
+    else if is_plain_byte byte then later 1 (ending close (next ∷ bytes))
     else if (byte == 92) && ((next == close) || (next == 92)) then later 2 (ending close bytes)
     else spoilt
 
@@ -128,7 +137,8 @@ ending close (byte ∷ next ∷ bytes) =
 abbrev pub text_of : List ℕ → List ℕ
 text_of [] = []
 text_of (byte ∷ []) = byte ∷ []
-text_of (byte ∷ next ∷ bytes) = if byte == 92 then next ∷ text_of bytes else byte ∷ text_of (next ∷ bytes)
+text_of (byte ∷ next ∷ bytes) =
+    if byte == 92 then next ∷ text_of bytes else byte ∷ text_of (next ∷ bytes)
 
 -- what characters with this ending make between their marks
 abbrev pub between_marks : (List ℕ → Lexeme) → List ℕ → Ending → Lexeme × ℕ
@@ -157,7 +167,8 @@ dollar_len bytes = dollars_len bytes + prefix_len is_word_byte (drop (dollars_le
 
 abbrev pub dollar_at : List ℕ → Lexeme × ℕ
 dollar_at bytes =
-    if begins is_ascii_lowercase (drop (dollars_len bytes) bytes) then (token (dollar (take (dollar_len bytes) bytes)), dollar_len bytes)
+    if begins is_ascii_lowercase (drop (dollars_len bytes) bytes)
+    then (token (dollar (take (dollar_len bytes) bytes)), dollar_len bytes)
     else (fault BadToken, 1)
 
 -- the opening mark was taken away
@@ -175,7 +186,8 @@ mark_of byte =
     if byte == 91 then Some OpenBracket else if byte == 93 then Some CloseBracket else
     if byte == 123 then Some OpenBrace else if byte == 125 then Some CloseBrace else
     if byte == 44 then Some Comma else if byte == 46 then Some FullStop else
-    if byte == 124 then Some Bar else if byte == 126 then Some Tilde else if byte == 61 then Some Equals else
+    if byte == 124 then Some Bar else if byte == 126 then Some Tilde else
+    if byte == 61 then Some Equals else
     if list_any (λ other. byte == other) (codes ":!?&@^<>*+-/") then Some Other else None
 
 abbrev pub mark_lexeme : Option Mark → Lexeme
@@ -190,7 +202,7 @@ lexeme_from byte rest =
     if is_slash byte && begins is_star rest then comment_of (comment_len (drop 1 rest)) else
     if is_ascii_lowercase byte then word_at lower (byte ∷ rest) else
     if is_ascii_uppercase byte then word_at upper (byte ∷ rest) else
-    if begins_number (byte ∷ rest) then (token (number (take (number_len (byte ∷ rest)) (byte ∷ rest))), number_len (byte ∷ rest)) else
+    if begins_number (byte ∷ rest) then number_at (byte ∷ rest) else
     if byte == 39 then quoted_at rest else
     if byte == 34 then distinct_at rest else
     if byte == 36 then dollar_at (byte ∷ rest) else
@@ -219,11 +231,3 @@ line_of before = 1 + length (filter is_line_end before)
 
 abbrev pub column_of : List ℕ → ℕ
 column_of before = 1 + prefix_len (λ b. not (is_line_end b)) (reverse before)
-
--- what each token's text is like
-abbrev pub HasForm : Token → Type 0
-HasForm (lower text) = IsTrue (is_lower_word text)
-HasForm (upper text) = IsTrue (begins is_ascii_uppercase text) × IsTrue (list_all is_word_byte text)
-HasForm (number text) = IsTrue (begins_number text)
-HasForm (quoted text) = IsPrintable text
-HasForm t = Unit {0}

@@ -40,21 +40,26 @@ IsTermPlace begun = IsAtomPlace begun
 abbrev pub MayBegin : List Token → Begins → Type 0
 MayBegin tokens begun = (t : Token) × MayStand tokens t begun
 
--- The token is allowed after the tokens, and begins this. An upper word is allowed too where a literal, or
--- an atom after a ~, begins, though nothing is allowed after it.
+-- The token is allowed after the tokens, and begins this. An upper word is allowed too where a
+-- literal, or an atom after a ~, begins, though nothing is allowed after it.
 abbrev pub IsAllowed : List Token → Token → Begins → Type 0
-IsAllowed tokens (upper text) begun = MayStand tokens (upper text) begun ⊎ (IsAtomPlace begun × MayBegin tokens begun)
+IsAllowed tokens (upper text) begun =
+    MayStand tokens (upper text) begun ⊎ (IsAtomPlace begun × MayBegin tokens begun)
 IsAllowed tokens t begun = MayStand tokens t begun
 
 -- a literal, an atom after a ~, or a term may begin after the tokens
 abbrev pub TermMayBegin : List Token → Type 0
 TermMayBegin tokens = (begun : Begins) × IsTermPlace begun × MayBegin tokens begun
 
+-- the tokens end with an upper word in the place of an atom
+abbrev pub EndsWithUpperWord : List Token → Type 0
+EndsWithUpperWord tokens =
+    (before : List Token) × (text : List ℕ) × (begun : Begins)
+    × (tokens ≡ before ++ upper text ∷ []) × IsAtomPlace begun × MayBegin before begun
+
 -- the tokens end with an atom, or with an upper word in the place of one
 abbrev pub EndsWithAtom : List Token → Type 0
-EndsWithAtom tokens =
-    MayBegin tokens a_next_literal
-    ⊎ ((before : List Token) × (text : List ℕ) × (begun : Begins) × (tokens ≡ before ++ upper text ∷ []) × IsAtomPlace begun × MayBegin before begun)
+EndsWithAtom tokens = MayBegin tokens a_next_literal ⊎ EndsWithUpperWord tokens
 
 abbrev pub with_text : List (List ℕ) → List ℕ → List (List ℕ)
 with_text texts text = if list_any (bytes_eq text) texts then texts else texts ++ text ∷ []
@@ -77,16 +82,24 @@ IsEquality t = ⊥
 -- The token after the tokens is an offence of this kind.
 abbrev pub Offends : Limits → List Token → Token → CnfKind → Type 0
 Offends limits tokens t kinds.Include = (t ≡ lower (codes "include")) × AreWhole tokens
-Offends limits tokens t kinds.NotCnf = (text : List ℕ) × (t ≡ lower text) × (text ≢ codes "cnf") × AreWhole tokens
+Offends limits tokens t kinds.NotCnf =
+    (text : List ℕ) × (t ≡ lower text) × (text ≢ codes "cnf") × AreWhole tokens
 Offends limits tokens t kinds.Number = (text : List ℕ) × (t ≡ number text) × TermMayBegin tokens
 Offends limits tokens t kinds.DistinctObject = (t ≡ distinct) × TermMayBegin tokens
 Offends limits tokens t kinds.Equality = IsEquality t × EndsWithAtom tokens
 Offends limits tokens t kinds.Unexpected = (begun : Begins) → ¬ IsAllowed tokens t begun
-Offends limits tokens t kinds.TooManyClauses = (n : ℕ) × IsAllowed tokens t (an_item n) × (limits.clauses ≤ n)
-Offends limits tokens t kinds.TooManyLiterals = (n : ℕ) × IsAllowed tokens t (a_literal n) × (limits.literals ≤ n)
-Offends limits tokens t kinds.TooManyVariables = (text : List ℕ) × (t ≡ upper text) × (¬ Contains (variables tokens) text) × (limits.variables ≤ length (variables tokens))
-Offends limits tokens t kinds.ArityTooLarge = (n : ℕ) × (nesting : ℕ) × IsAllowed tokens t (an_argument n nesting) × (limits.arity ≤ n)
-Offends limits tokens t kinds.TooDeep = (n : ℕ) × (nesting : ℕ) × IsAllowed tokens t (an_argument n nesting) × (limits.nesting < nesting)
+Offends limits tokens t kinds.TooManyClauses =
+    (n : ℕ) × IsAllowed tokens t (an_item n) × (limits.clauses ≤ n)
+Offends limits tokens t kinds.TooManyLiterals =
+    (n : ℕ) × IsAllowed tokens t (a_literal n) × (limits.literals ≤ n)
+Offends limits tokens t kinds.TooManyVariables =
+    (text : List ℕ) × (t ≡ upper text) × (¬ Contains (variables tokens) text)
+    × (limits.variables ≤ length (variables tokens))
+Offends limits tokens t kinds.ArityTooLarge =
+    (n : ℕ) × (nesting : ℕ) × IsAllowed tokens t (an_argument n nesting) × (limits.arity ≤ n)
+Offends limits tokens t kinds.TooDeep =
+    (n : ℕ) × (nesting : ℕ) × IsAllowed tokens t (an_argument n nesting)
+    × (limits.nesting < nesting)
 Offends limits tokens t kind = ⊥
 
 -- What comes after the tokens is an offence of this kind.
@@ -125,7 +138,10 @@ rank kinds.TooManyVariables = 13
 rank kinds.ArityTooLarge = 14
 rank kinds.TooDeep = 15
 
--- The first offence: no other one stands at an earlier place, or at this place with a kind before its own.
+-- The first offence: no other one stands at an earlier place, or at this place with a kind before
+-- its own.
 pub record IsFirstOffence (limits : Limits) (bytes rest : List ℕ) (kind : CnfKind) : Type 0 where
   pub is : IsOffence limits bytes rest kind
-  pub first : (other : List ℕ) (k : CnfKind) → IsOffence limits bytes other k → (length other < length rest) ⊎ ((other ≡ rest) × (rank kind ≤ rank k))
+  pub first :
+      (other : List ℕ) (k : CnfKind) → IsOffence limits bytes other k
+      → (length other < length rest) ⊎ ((other ≡ rest) × (rank kind ≤ rank k))

@@ -17,22 +17,22 @@ pub struct Place {
 /// docs/FORMAT.md counts.
 #[derive(Clone, Copy, Debug, PartialEq, Eq)]
 pub enum CnfKind {
-    BadByte,
-    BadToken,
-    UnclosedComment,
-    UnclosedQuote,
-    Unexpected,
-    EndInItem,
-    NotCnf,
-    Include,
-    Equality,
-    Number,
-    DistinctObject,
-    TooManyClauses,
-    TooManyLiterals,
-    TooManyVariables,
-    ArityTooLarge,
-    TooDeep,
+    BadByte = 1,
+    BadToken = 2,
+    UnclosedComment = 3,
+    UnclosedQuote = 4,
+    Unexpected = 5,
+    EndInItem = 6,
+    NotCnf = 7,
+    Include = 8,
+    Equality = 9,
+    Number = 10,
+    DistinctObject = 11,
+    TooManyClauses = 12,
+    TooManyLiterals = 13,
+    TooManyVariables = 14,
+    ArityTooLarge = 15,
+    TooDeep = 16,
 }
 
 impl CnfKind {

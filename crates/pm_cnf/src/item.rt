@@ -1,7 +1,7 @@
 //! Items as they are written.
 ghost use Rattle.std.specs.Prelude.{◌≡◌};
-ghost use Rattle.pm_cnf.specs.Parsed.{node_of};
-ghost use Rattle.pm_cnf.specs.Draft.{with_arity};
+ghost use Rattle.pm_cnf.specs.Inside.Parsed.{node_of};
+ghost use Rattle.pm_cnf.specs.Inside.Draft.{with_arity};
 
 /// A word of an atom or a term.
 #[derive(Clone, Copy, Debug, PartialEq, Eq)]
@@ -17,8 +17,8 @@ pub enum Name<'a> {
     Integer(&'a str),
 }
 
-/// A part of an item's literals. The parts of an atom or a term are its symbol and then the parts of its
-/// arguments, from left to right.
+/// A part of an item's literals. The parts of an atom or a term are its symbol and then the parts
+/// of its arguments, from left to right.
 #[derive(Clone, Copy, Debug, PartialEq, Eq)]
 pub enum Node<'a> {
     /// A literal's sign and predicate, and how many arguments it has.

@@ -11,7 +11,8 @@ pub fn offence_is_determined()
     ensures { OffenceIsDetermined }
 {}
 
-/// The text that `write` gives for a problem that was read is read as the same problem, with the same limits.
+/// The text that `write` gives for a problem that was read is read as the same problem, with the
+/// same limits.
 pub fn written_clauses_read_back()
     ensures { WrittenClausesReadBack }
 {}

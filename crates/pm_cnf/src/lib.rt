@@ -1,4 +1,5 @@
-//! Clause files in the CNF form of TPTP's language, in the profile of docs/FORMAT.md: reading and writing.
+//! Clause files in the CNF form of TPTP's language, in the profile of docs/FORMAT.md: reading and
+//! writing.
 #![tactic(auto)]
 
 mod error;

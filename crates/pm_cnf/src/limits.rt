@@ -19,7 +19,13 @@ pub struct Limits {
 impl Limits {
     /// The limits of the program's clause files, which no other limits exceed.
     pub fn standard() -> Limits
-        ensures { result ≡ record { clauses = 65536; literals = 255; variables = 1000; arity = 255; nesting = 1000 } }
+        ensures { result ≡ record {
+          clauses = 65536;
+          literals = 255;
+          variables = 1000;
+          arity = 255;
+          nesting = 1000;
+        } }
     {
         Limits {
             clauses: 65_536,

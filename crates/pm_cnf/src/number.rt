@@ -5,13 +5,14 @@ ghost use Rattle.pm_logic.specs.Problem.{Numbers, IsPrintable};
 ghost use Rattle.pm_logic.specs.Term.{var, tree_at, as_terms};
 ghost use Rattle.pm_logic.specs.Table.{variable_count};
 ghost use Rattle.pm_logic.specs.View as view;
-ghost use Rattle.pm_cnf.specs.Readable.{AreReadable, HasPrintableName};
-ghost use Rattle.pm_cnf.specs.Parsed.{item_of, word_of, name_of, node_of};
+ghost use Rattle.pm_logic.specs.Lists.{Gathers};
+ghost use Rattle.pm_cnf.specs.Inside.Readable.{AreReadable, HasPrintableName};
+ghost use Rattle.pm_cnf.specs.Inside.Parsed.{item_of, word_of, name_of, node_of};
 ghost use Rattle.pm_cnf.specs.Grammar as grammar;
-ghost use Rattle.pm_cnf.specs.Draft.{written, literal_nodes, arguments_nodes};
+ghost use Rattle.pm_cnf.specs.Inside.Draft.{written, literal_nodes, arguments_nodes};
 ghost use Rattle.pm_cnf.specs.Offences.{with_text};
-ghost use Rattle.pm_cnf.specs.Meaning.{IsProblemOf, Gathers, Pairwise, AreTreesOf, kept_among, label_of};
-ghost use Rattle.pm_cnf.specs.Parts.{is_argument, IsArgument, AreWhole, applications_of, trees_of, IsPartOf, part_leaf, terms_among, Grows, AreNumbered, IsNumbered, ArePrintable, node_holds, texts_of, tables};
+ghost use Rattle.pm_cnf.specs.Meaning.{IsProblemOf, Pairwise, AreTreesOf, kept_among, label_of};
+ghost use Rattle.pm_cnf.specs.Inside.Parts.{is_argument, IsArgument, AreWellFormed, applications_of, trees_of, IsPartOf, part_leaf, terms_among, Grows, AreNumbered, IsNumbered, ArePrintable, node_holds, texts_of, tables};
 
 use crate::item::{Item, Name, Node, Word};
 use crate::scan::quoted_text;
@@ -20,11 +21,13 @@ use pm_logic::{Clause, Kind, Literal, Name as ClauseName, Problem, Symbols, Term
 use std::alloc::{AllocError, Global};
 use std::marker::Model;
 
-/// The problem of items: a clause for each item without a literal that always holds. Symbols are numbered by
-/// first occurrence in the literals that are kept, and variables so in each clause.
+/// The problem of items: a clause for each item without a literal that always holds. Symbols are
+/// numbered by first occurrence in the literals that are kept, and variables so in each clause.
 pub fn number_items(alloc: Global, items: &[Item<'_>]) -> Result<Problem, AllocError>
     requires { AreReadable (map item_of items.now) }
-    ensures { IfOk result (λ problem. (file : _) → map item_of items.now ≡ map written file → IsProblemOf file problem) }
+    ensures { IfOk result
+        (λ problem. (file : _) → map item_of items.now ≡ map written file
+        → IsProblemOf file problem) }
 {
     let mut numbering = Numbering::new(alloc);
     let mut clauses = Vec::new(alloc);
@@ -53,15 +56,16 @@ fn holds_always(node: &Node<'_>) -> bool
     }
 }
 
-// A part of a literal's arguments, in the order of its nodes: a variable of the clause, or a symbol with
-// its number of arguments.
+// A part of a literal's arguments, in the order of its nodes: a variable of the clause, or a symbol
+// with its number of arguments.
 #[derive(Clone, Copy, Debug)]
 enum Part {
     Variable(usize),
     Function { symbol: u32, arity: u8 },
 }
 
-// The terms so far, and the rows of the variables among them by number: seen as the list of the terms.
+// The terms so far, and the rows of the variables among them by number: seen as the list of the
+// terms.
 #[derive(Drop)]
 struct Terms {
     alloc: Global,
@@ -74,7 +78,7 @@ impl Model for Terms {
     ghost use Rattle.std.specs.Coded.{coded_list};
     ghost use Rattle.pm_logic.specs.Term.{Term};
     ghost use Rattle.pm_logic.specs.TermCode.{term_code};
-    ghost use Rattle.pm_cnf.specs.Parts.{AreVariables};
+    ghost use Rattle.pm_cnf.specs.Inside.Parts.{AreVariables};
 
     ghost Value = { List Term };
 
@@ -120,9 +124,10 @@ impl Terms {
 
     // The rows of the terms of these parts: each application gets its row, from right to left.
     fn build(&mut self, parts: &[Part]) -> Result<Vec<TermId>, AllocError>
-        requires { AreWhole (variable_count self.old) parts.now }
+        requires { AreWellFormed (variable_count self.old) parts.now }
         ensures gathers { OnOk result (Gathers self.old (applications_of parts.now) self.new) }
-        ensures trees { IfOk result (λ rows. map (tree_at self.new) rows.items ≡ trees_of parts.now) }
+        ensures trees { IfOk result
+            (λ rows. map (tree_at self.new) rows.items ≡ trees_of parts.now) }
         ensures rows { IfOk result (λ rows. All (λ row. row < length self.new) rows.items) }
     {
         // The rows of the terms that were built, the first of them last.
@@ -168,9 +173,14 @@ impl Numbering {
         requires name { HasPrintableName (name_of item.now.name) }
         requires few { length self.old.symbols + length item.now.nodes.items ≤ 2 ^ 32 - 1 }
         requires printable { ArePrintable (map node_of item.now.nodes.items) }
-        ensures numbered { IfOk result (λ clause. (i : _) → item_of item.now ≡ written i → IsNumbered self.old.symbols self.new.symbols self.old.terms self.new.terms i (view.clause_of self.new.terms clause)) }
-        ensures rows { IfOk result (λ clause. All (view.HasRows (length self.new.terms)) clause.literals.items) }
-        ensures few { OnOk result (length self.new.symbols ≤ length self.old.symbols + length item.now.nodes.items) }
+        ensures numbered { IfOk result
+            (λ clause. (i : _) → item_of item.now ≡ written i
+            → IsNumbered self.old.symbols self.new.symbols self.old.terms self.new.terms i
+            (view.clause_of self.new.terms clause)) }
+        ensures rows { IfOk result
+            (λ clause. All (view.HasRows (length self.new.terms)) clause.literals.items) }
+        ensures few { OnOk result
+            (length self.new.symbols ≤ length self.old.symbols + length item.now.nodes.items) }
     {
         // The clause's variables, each at its number.
         let mut texts = IndexSet::new(self.alloc);
@@ -189,12 +199,18 @@ impl Numbering {
         nodes: &[Node<'a>],
         texts: &mut IndexSet<&'a str>,
     ) -> Result<Vec<Literal>, AllocError>
-        requires literals { (literals : List grammar.Literal) × (map node_of nodes.now ≡ flat_map literal_nodes literals) }
+        requires literals { (literals : List grammar.Literal)
+            × (map node_of nodes.now ≡ flat_map literal_nodes literals) }
         requires few { length self.old.symbols + length nodes.now ≤ 2 ^ 32 - 1 }
         requires printable { ArePrintable (map node_of nodes.now) }
         requires known { length texts.old.keys ≤ variable_count self.old.terms }
-        ensures numbered { IfOk result (λ literals. (given : _) → map node_of nodes.now ≡ flat_map literal_nodes given → AreNumbered (tables self.old.symbols self.old.terms texts.old.keys) (map node_of nodes.now) (tables self.new.symbols self.new.terms texts.new.keys) (kept_among given) (map (view.literal_of self.new.terms) literals.items)) }
-        ensures rows { IfOk result (λ literals. All (view.HasRows (length self.new.terms)) literals.items) }
+        ensures numbered { IfOk result
+            (λ literals. (given : _) → map node_of nodes.now ≡ flat_map literal_nodes given
+            → AreNumbered (tables self.old.symbols self.old.terms texts.old.keys)
+            (map node_of nodes.now) (tables self.new.symbols self.new.terms texts.new.keys)
+            (kept_among given) (map (view.literal_of self.new.terms) literals.items)) }
+        ensures rows { IfOk result
+            (λ literals. All (view.HasRows (length self.new.terms)) literals.items) }
     {
         let mut literals = Vec::new(self.alloc);
         let mut next = 0;
@@ -234,12 +250,19 @@ impl Numbering {
         nodes: &[Node<'a>],
         texts: &mut IndexSet<&'a str>,
     ) -> Result<Vec<TermId>, AllocError>
-        requires args { (args : grammar.Arguments) × (map node_of nodes.now ≡ arguments_nodes args) }
+        requires args { (args : grammar.Arguments)
+            × (map node_of nodes.now ≡ arguments_nodes args) }
         requires few { length self.old.symbols + length nodes.now ≤ 2 ^ 32 - 1 }
         requires printable { ArePrintable (map node_of nodes.now) }
         requires known { length texts.old.keys ≤ variable_count self.old.terms }
-        ensures grows { IfOk result (λ rows. Grows (tables self.old.symbols self.old.terms texts.old.keys) (map node_of nodes.now) (terms_among (map (tree_at self.new.terms) rows.items)) (tables self.new.symbols self.new.terms texts.new.keys)) }
-        ensures terms { IfOk result (λ rows. (args : _) → map node_of nodes.now ≡ arguments_nodes args → AreTreesOf self.new.symbols (texts_of texts.new.keys) args (as_terms (map (tree_at self.new.terms) rows.items))) }
+        ensures grows { IfOk result
+            (λ rows. Grows (tables self.old.symbols self.old.terms texts.old.keys)
+            (map node_of nodes.now) (terms_among (map (tree_at self.new.terms) rows.items))
+            (tables self.new.symbols self.new.terms texts.new.keys)) }
+        ensures terms { IfOk result
+            (λ rows. (args : _) → map node_of nodes.now ≡ arguments_nodes args
+            → AreTreesOf self.new.symbols (texts_of texts.new.keys) args
+            (as_terms (map (tree_at self.new.terms) rows.items))) }
         ensures rows { IfOk result (λ rows. All (λ row. row < length self.new.terms) rows.items) }
     {
         let parts = self.parts(nodes, texts)?;
@@ -247,7 +270,8 @@ impl Numbering {
         Ok(rows)
     }
 
-    // The parts that nodes of arguments are: each variable and symbol gets its number, from left to right.
+    // The parts that nodes of arguments are: each variable and symbol gets its number, from left to
+    // right.
     fn parts<'a>(
         &mut self,
         nodes: &[Node<'a>],
@@ -257,8 +281,13 @@ impl Numbering {
         requires few { length self.old.symbols + length nodes.now ≤ 2 ^ 32 - 1 }
         requires printable { ArePrintable (map node_of nodes.now) }
         requires known { length texts.old.keys ≤ variable_count self.old.terms }
-        ensures grows { IfOk result (λ parts. Grows (tables self.old.symbols self.old.terms texts.old.keys) (map node_of nodes.now) (flat_map part_leaf parts.items) (tables self.new.symbols self.new.terms texts.new.keys)) }
-        ensures parts { IfOk result (λ parts. Pairwise (IsPartOf self.new.symbols (texts_of texts.new.keys)) (map node_of nodes.now) parts.items) }
+        ensures grows { IfOk result
+            (λ parts. Grows (tables self.old.symbols self.old.terms texts.old.keys)
+            (map node_of nodes.now) (flat_map part_leaf parts.items)
+            (tables self.new.symbols self.new.terms texts.new.keys)) }
+        ensures parts { IfOk result
+            (λ parts. Pairwise (IsPartOf self.new.symbols (texts_of texts.new.keys))
+            (map node_of nodes.now) parts.items) }
     {
         let mut parts = Vec::new(self.alloc);
         'nodes: for node in nodes {
@@ -287,8 +316,10 @@ impl Numbering {
 
 // The number of a variable of the clause: the next one if it is new.
 fn number_text<'a>(texts: &mut IndexSet<&'a str>, text: &'a str) -> Result<usize, AllocError>
-    ensures texts { OnOk result (texts_of texts.new.keys ≡ with_text (texts_of texts.old.keys) text.now) }
-    ensures number { IfOk result (λ number. slice_get (texts_of texts.new.keys) number ≡ Some text.now) }
+    ensures texts { OnOk result
+        (texts_of texts.new.keys ≡ with_text (texts_of texts.old.keys) text.now) }
+    ensures number { IfOk result
+        (λ number. slice_get (texts_of texts.new.keys) number ≡ Some text.now) }
     ensures within { IfOk result (λ number. number ≤ length texts.old.keys) }
 {
     let (number, _) = texts.insert_full(text)?;
@@ -305,7 +336,9 @@ fn number_word(
 ) -> Result<u32, AllocError>
     requires few { length symbols.old < 2 ^ 32 - 1 }
     requires printable { IsPrintable (grammar.word_text (word_of word)) }
-    ensures { IfOk result (Numbers symbols.old symbols.new (record { text = grammar.word_text (word_of word.entry); arity = arity; kind = kind })) }
+    ensures { IfOk result
+        (Numbers symbols.old symbols.new
+        (record { text = grammar.word_text (word_of word.entry); arity = arity; kind = kind })) }
 {
     match word {
         Word::Bare(text) => symbols.number(text, arity, kind),

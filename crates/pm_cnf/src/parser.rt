@@ -1,17 +1,18 @@
 //! Reading items from tokens.
 ghost use Rattle.std.specs.Prelude.{is_some, map, IsTrue, ◌↔◌, ◌≡◌, ◌<◌, ◌+◌, ◌^◌, ◌≤◌, []};
-ghost use Rattle.pm_cnf.specs.View.{token_of};
+ghost use Rattle.pm_cnf.specs.Inside.View.{token_of};
 ghost use Rattle.std.specs.List.{list_all};
 ghost use Rattle.std.specs.Char.{is_ascii_digit};
 ghost use Rattle.pm_cnf.specs.Lexemes as tokens;
-ghost use Rattle.pm_cnf.specs.Parsed.{state_of, draft_of, known_of, node_of, word_of, bracket_of, AreUsual, Accepts, AcceptsAt, TakesMark, AddsNode, OpensList, AddsArgument, CountsArgument, OpensBracket, ClosesBracket, Notes};
-ghost use Rattle.pm_cnf.specs.Machine.{start, innermost, term_refusal, atom_end_refusal, literal_step};
-ghost use Rattle.pm_cnf.specs.Draft.{nothing_drafted};
-ghost use Rattle.pm_cnf.specs.Draft as drafts;
+ghost use Rattle.pm_cnf.specs.Inside.Parsed.{state_of, draft_of, known_of, node_of, word_of, bracket_of, Accepts, AcceptsAt, TakesMark, AddsNode, OpensList, AddsArgument, CountsArgument, OpensBracket, ClosesBracket, AddsVariable, AllowsVariable, NotesVariable};
+ghost use Rattle.pm_cnf.specs.Inside.Machine.{start, innermost, term_refusal, atom_end_refusal, literal_step};
+ghost use Rattle.pm_cnf.specs.Inside.Draft.{nothing_drafted};
+ghost use Rattle.pm_cnf.specs.Inside.Draft as drafts;
 ghost use Rattle.pm_cnf.specs.declared.token.Mark.TheVariants.{CloseParenthesis};
 ghost use Rattle.pm_cnf.specs.declared.parser.Expected.TheVariants as expect;
 ghost use Rattle.pm_cnf.specs.declared.parser.Refusal.TheVariants.{Kind};
 ghost use Rattle.pm_cnf.specs.declared.error.CnfKind.TheVariants as kinds;
+ghost use Rattle.pm_cnf.specs.Limits.{AreUsual};
 
 use crate::error::CnfKind;
 use crate::item::{Item, Name, Node, Word};
@@ -156,7 +157,8 @@ impl<'a> Parser<'a> {
         }
     }
 
-    /// Reads one more token, or says why it is refused. A parser that refused a token isn't used again.
+    /// Reads one more token, or says why it is refused: for want of memory only where nothing else
+    /// refuses it. A parser that refused a token isn't used again.
     pub fn accept(&mut self, token: Token<'a>) -> Result<(), Refusal>
         requires usual { AreUsual self.old.limits }
         requires room { self.old.around + 1 < 2 ^ 64 }
@@ -314,7 +316,9 @@ impl<'a> Parser<'a> {
     }
 
     fn predicate(&mut self, word: Word<'a>) -> Result<(), Refusal>
-        ensures adds { AddsNode self.old (drafts.predicate self.old.positive (word_of word.entry) 0) expect.PredicateEnd self.new result }
+        ensures adds { AddsNode self.old
+            (drafts.predicate_node self.old.positive (word_of word.entry) 0) expect.PredicateEnd
+            self.new result }
         ensures around { self.new.around ≡ self.old.around }
     {
         self.nodes.push(Node::Predicate {
@@ -327,7 +331,8 @@ impl<'a> Parser<'a> {
     }
 
     fn constant(&mut self, value: bool) -> Result<(), Refusal>
-        ensures adds { AddsNode self.old (drafts.constant self.old.positive value) expect.LiteralEnd self.new result }
+        ensures adds { AddsNode self.old (drafts.constant_node self.old.positive value)
+            expect.LiteralEnd self.new result }
         ensures around { self.new.around ≡ self.old.around }
     {
         self.nodes.push(Node::Constant {
@@ -339,7 +344,8 @@ impl<'a> Parser<'a> {
     }
 
     fn predicate_end(&mut self, token: Token<'a>) -> Result<(), Refusal>
-        ensures accepts { AcceptsAt expect.PredicateEnd self.old (token_of token.entry) self.new result }
+        ensures accepts { AcceptsAt expect.PredicateEnd self.old (token_of token.entry) self.new
+            result }
         ensures room { self.new.around ≤ self.old.around + 1 }
     {
         match token {
@@ -362,7 +368,8 @@ impl<'a> Parser<'a> {
     }
 
     fn literal_end(&mut self, token: Token<'a>) -> Result<(), Refusal>
-        ensures accepts { AcceptsAt expect.LiteralEnd self.old (token_of token.entry) self.new result }
+        ensures accepts { AcceptsAt expect.LiteralEnd self.old (token_of token.entry) self.new
+            result }
         ensures room { self.new.around ≤ self.old.around + 1 }
     {
         match token {
@@ -376,7 +383,8 @@ impl<'a> Parser<'a> {
     }
 
     fn formula_end(&mut self, token: Token<'a>) -> Result<(), Refusal>
-        ensures accepts { AcceptsAt expect.FormulaEnd self.old (token_of token.entry) self.new result }
+        ensures accepts { AcceptsAt expect.FormulaEnd self.old (token_of token.entry) self.new
+            result }
         ensures room { self.new.around ≤ self.old.around + 1 }
     {
         match token {
@@ -406,8 +414,9 @@ impl<'a> Parser<'a> {
             Token::Lower(text) => self.function(Word::Bare(text)),
             Token::Quoted(characters) => self.function(Word::Quoted(characters)),
             Token::Upper(text) => {
-                self.variable(text)?;
-                self.argument(Node::Variable(text), Expected::TermEnd)
+                self.allow_variable(text)?;
+                self.argument(Node::Variable(text), Expected::TermEnd)?;
+                self.note_variable(text)
             }
             _ => Err(in_place_of_term(token)),
         }
@@ -415,7 +424,8 @@ impl<'a> Parser<'a> {
 
     fn function(&mut self, word: Word<'a>) -> Result<(), Refusal>
         requires usual { AreUsual self.old.limits }
-        ensures adds { AddsArgument self.old (drafts.function (word_of word.entry) 0) expect.FunctionEnd self.new result }
+        ensures adds { AddsArgument self.old (drafts.function_node (word_of word.entry) 0)
+            expect.FunctionEnd self.new result }
         ensures around { self.new.around ≡ self.old.around }
     {
         self.argument(Node::Function { word, arity: 0 }, Expected::FunctionEnd)
@@ -464,7 +474,8 @@ impl<'a> Parser<'a> {
     }
 
     fn function_end(&mut self, token: Token<'a>) -> Result<(), Refusal>
-        ensures accepts { AcceptsAt expect.FunctionEnd self.old (token_of token.entry) self.new result }
+        ensures accepts { AcceptsAt expect.FunctionEnd self.old (token_of token.entry) self.new
+            result }
         ensures room { self.new.around ≤ self.old.around + 1 }
     {
         match token {
@@ -489,7 +500,8 @@ impl<'a> Parser<'a> {
 
     // The innermost list of arguments ends.
     fn close_list(&mut self) -> Result<(), Refusal>
-        ensures accepts { AcceptsAt expect.TermEnd self.old (tokens.mark CloseParenthesis) self.new result }
+        ensures accepts { AcceptsAt expect.TermEnd self.old (tokens.mark CloseParenthesis) self.new
+            result }
         ensures around { self.new.around ≡ self.old.around }
     {
         let Some(list) = self.lists.pop() else {
@@ -505,7 +517,8 @@ impl<'a> Parser<'a> {
     }
 
     fn annotations_end(&mut self, token: Token<'a>) -> Result<(), Refusal>
-        ensures accepts { AcceptsAt expect.AnnotationsEnd self.old (token_of token.entry) self.new result }
+        ensures accepts { AcceptsAt expect.AnnotationsEnd self.old (token_of token.entry) self.new
+            result }
         ensures room { self.new.around ≤ self.old.around + 1 }
     {
         match token {
@@ -518,7 +531,8 @@ impl<'a> Parser<'a> {
     }
 
     fn annotation(&mut self, token: Token<'a>) -> Result<(), Refusal>
-        ensures accepts { AcceptsAt expect.Annotations self.old (token_of token.entry) self.new result }
+        ensures accepts { AcceptsAt expect.Annotations self.old (token_of token.entry) self.new
+            result }
         ensures room { self.new.around ≤ self.old.around + 1 }
     {
         self.expected = Expected::AnnotationsEnd;
@@ -569,7 +583,8 @@ impl<'a> Parser<'a> {
     }
 
     fn full_stop(&mut self, token: Token<'a>) -> Result<(), Refusal>
-        ensures accepts { AcceptsAt expect.FullStop self.old (token_of token.entry) self.new result }
+        ensures accepts { AcceptsAt expect.FullStop self.old (token_of token.entry) self.new
+            result }
         ensures room { self.new.around ≤ self.old.around + 1 }
     {
         if token != Token::Mark(Mark::FullStop) {
@@ -590,17 +605,32 @@ impl<'a> Parser<'a> {
         Ok(())
     }
 
-    // Notes an upper word of the item.
+    // An upper word of the item.
     fn variable(&mut self, text: &'a str) -> Result<(), Refusal>
-        ensures notes { Notes self.old text.now self.new result }
+        ensures adds { AddsVariable self.old text.now self.new result }
         ensures around { self.new.around ≡ self.old.around }
     {
-        if self.variables.contains(text) {
-            return Ok(());
-        }
-        if self.variables.len() >= self.limits.variables as usize {
+        self.allow_variable(text)?;
+        self.note_variable(text)
+    }
+
+    // Refuses an upper word that would be one too many of the item.
+    fn allow_variable(&self, text: &'a str) -> Result<(), Refusal>
+        ensures { AllowsVariable self.now text.now result }
+    {
+        if self.variables.len() >= self.limits.variables as usize
+            && !self.variables.contains(text)
+        {
             return Err(Refusal::Kind(CnfKind::TooManyVariables));
         }
+        Ok(())
+    }
+
+    // Notes an upper word of the item, if it isn't there.
+    fn note_variable(&mut self, text: &'a str) -> Result<(), Refusal>
+        ensures notes { NotesVariable self.old text.now self.new result }
+        ensures around { self.new.around ≡ self.old.around }
+    {
         self.variables.insert(text)?;
         Ok(())
     }
@@ -608,7 +638,8 @@ impl<'a> Parser<'a> {
 
 // The node at the place is of a symbol with so many arguments.
 fn set_arity(nodes: &mut Vec<Node<'_>>, place: usize, arguments: u8)
-    ensures { map node_of nodes.new.items ≡ drafts.set_arity place arguments (map node_of nodes.old.items) }
+    ensures { map node_of nodes.new.items
+        ≡ drafts.set_arity place arguments (map node_of nodes.old.items) }
 {
     if let Some(node) = nodes.get_mut(place) {
         node.set_arity(arguments);

@@ -1,11 +1,12 @@
 //! Reading clause files.
 ghost use Rattle.std.specs.Prelude.{◌≡◌, ◌<◌, ◌≤◌, ◌+◌, ◌-◌, ◌^◌, IfOk, IfErr, length, map};
-ghost use Rattle.pm_cnf.specs.Parsed.{item_of, AreUsual};
-ghost use Rattle.pm_cnf.specs.Readable.{IsRead};
-ghost use Rattle.pm_cnf.specs.Refusals.{Refuses, RefusesAt};
-ghost use Rattle.pm_cnf.specs.View.{lexeme_of};
-ghost use Rattle.pm_cnf.specs.Progress.{Reads};
+ghost use Rattle.pm_cnf.specs.Inside.Parsed.{item_of};
+ghost use Rattle.pm_cnf.specs.Inside.Readable.{IsRead};
+ghost use Rattle.pm_cnf.specs.Refusals.{Refuses};
+ghost use Rattle.pm_cnf.specs.Inside.View.{lexeme_of};
+ghost use Rattle.pm_cnf.specs.Inside.Progress.{AcceptsLexeme, RefusesAt};
 ghost use Rattle.pm_cnf.specs.Meaning.{IsProblemIn};
+ghost use Rattle.pm_cnf.specs.Limits.{AreUsual};
 
 use crate::error::{CnfError, CnfKind};
 use crate::item::Item;
@@ -20,9 +21,9 @@ use std::alloc::Global;
 /// Reads the problem of a clause file.
 ///
 /// `bytes` are the whole file, fewer than 2^32 - 1 of them, and `limits` are within those of
-/// [`Limits::standard`]. The answer is the problem that the file has by its grammar (docs/FORMAT.md), or,
-/// exactly where the file has an offence, `CnfError::At` with the first one's kind and place.
-/// `CnfError::Memory` is answered for want of memory.
+/// [`Limits::standard`]. The answer is the problem that the file has by its grammar
+/// (docs/FORMAT.md), or, exactly where the file has an offence, `CnfError::At` with the first one's
+/// kind and place. `CnfError::Memory` is answered for want of memory.
 pub fn read(alloc: Global, bytes: &[u8], limits: &Limits) -> Result<Problem, CnfError>
     requires short { length bytes.now < 2 ^ 32 - 1 }
     requires usual { AreUsual limits.now }
@@ -62,7 +63,7 @@ fn read_items<'a>(
 fn read_lexeme<'a>(parser: &mut Parser<'a>, lexeme: Lexeme<'a>) -> Result<(), Refusal>
     requires usual { AreUsual parser.old.limits }
     requires room { parser.old.around + 1 < 2 ^ 64 }
-    ensures reads { Reads parser.old (lexeme_of lexeme.entry) parser.new result }
+    ensures reads { AcceptsLexeme parser.old (lexeme_of lexeme.entry) parser.new result }
     ensures room { parser.new.around ≤ parser.old.around + 1 }
 {
     match lexeme {

@@ -7,9 +7,9 @@ ghost use Rattle.std.specs.String.{string_bytes};
 ghost use Rattle.std.specs.Char.{is_ascii_digit, is_ascii_lowercase};
 ghost use Rattle.pm_logic.specs.Word.{is_word_byte};
 ghost use Rattle.pm_logic.specs.Problem.{IsPrintable};
-ghost use Rattle.pm_cnf.specs.Lexemes.{is_blank, is_plain, is_line_end, begins, front, comment_len, comment_of, digits_len, sign_len, begins_number, integer_len, fraction_len, exponent_len, number_len, ending, text_of, quoted_at, distinct_at, dollars_len, dollar_at, mark_of, mark_lexeme, lexeme_from, lexeme_at, line_of, column_of};
-ghost use Rattle.pm_cnf.specs.Scan.{closed_len, LexemeHasForm};
-ghost use Rattle.pm_cnf.specs.View.{lexeme_of};
+ghost use Rattle.pm_cnf.specs.Lexemes.{is_blank, is_plain_byte, is_line_end, begins, front, comment_len, comment_of, digits_len, sign_len, begins_number, integer_len, fraction_len, exponent_len, number_len, ending, text_of, quoted_at, distinct_at, dollars_len, dollar_at, mark_of, mark_lexeme, lexeme_from, lexeme_at, line_of, column_of};
+ghost use Rattle.pm_cnf.specs.Inside.Scan.{closed_len, LexemeHasForm};
+ghost use Rattle.pm_cnf.specs.Inside.View.{lexeme_of};
 
 use crate::error::{CnfKind, Place};
 use crate::token::{Lexeme, Mark, Token};
@@ -32,8 +32,8 @@ fn is_word_byte(byte: u8) -> bool
 
 /// Whether a byte is a character of a quoted word or a distinct object by itself, where it isn't
 /// the closing mark.
-fn is_plain(byte: u8) -> bool
-    ensures { result ≡ is_plain byte }
+fn is_plain_byte(byte: u8) -> bool
+    ensures { result ≡ is_plain_byte byte }
 {
     matches!(byte, b' '..=b'~') && byte != b'\\'
 }
@@ -172,7 +172,7 @@ fn characters_len(closing: u8, bytes: &[u8]) -> Result<usize, CnfKind>
         if byte == closing {
             return Ok(len);
         }
-        if is_plain(byte) {
+        if is_plain_byte(byte) {
             len += 1;
         } else if byte == b'\\' && is_escaped(closing, &bytes[len + 1..]) {
             len += 2;
@@ -334,10 +334,11 @@ fn lexeme_from<'a>(bytes: &'a [u8], first: u8, rest: &'a [u8]) -> (Lexeme<'a>, u
 }
 
 /// What stands at the front of the bytes, and how many of them it has; nothing at the end of the
-/// file. A token is as long as its form allows. A fault is given the length of its first byte, or of
-/// both marks of a quoted word without characters.
+/// file. A token is as long as its form allows. A fault is given the length of its first byte, or
+/// of both marks of a quoted word without characters.
 pub fn lexeme_at(bytes: &[u8]) -> Option<(Lexeme<'_>, usize)>
-    ensures lexeme { option_map (λ found. (lexeme_of found.0, found.1)) result ≡ lexeme_at bytes.now }
+    ensures lexeme { option_map (λ found. (lexeme_of found.0, found.1)) result
+        ≡ lexeme_at bytes.now }
     ensures within { IfSome result (λ found. (0 < found.1) × (found.1 ≤ length bytes.now)) }
     ensures form { IfSome result (λ found. LexemeHasForm (lexeme_of found.0)) }
 {

@@ -1,4 +1,4 @@
-use crate::{CnfError, CnfKind, Limits, read, write};
+use crate::{CnfError, CnfKind, Limits, Place, read, write};
 use pm_logic::{Kind, Problem};
 use std::alloc::Global;
 use std::test::Fail;
@@ -39,34 +39,77 @@ fn offence(
     }
 }
 
+// The examples of docs/FORMAT.md, with each limit at 1.
 #[test]
 fn each_kind(rt: HostRuntime) -> Result<(), Fail> {
-    for (file, line, column, kind) in [
-        ("cnf(a,axiom,p#).", 1, 14, CnfKind::BadByte),
-        ("/* cnf", 1, 1, CnfKind::UnclosedComment),
-        ("cnf('',axiom,p).", 1, 5, CnfKind::BadToken),
-        ("cnf(a,axiom,'p", 1, 13, CnfKind::UnclosedQuote),
-        ("cnf(a,axiom,p", 1, 14, CnfKind::EndInItem),
-        ("include('x').", 1, 1, CnfKind::Include),
-        ("\n\tfof(a,axiom,p).", 2, 2, CnfKind::NotCnf),
-        ("cnf(a,axiom,p(1)).", 1, 15, CnfKind::Number),
-        ("cnf(a,axiom,\"p\").", 1, 13, CnfKind::DistinctObject),
-        ("cnf(a,axiom,X = Y).", 1, 15, CnfKind::Equality),
-        ("cnf(a,axiom,p))", 1, 15, CnfKind::Unexpected),
+    for (file, column, kind) in [
+        ("cnf(a,axiom,p#).", 14, CnfKind::BadByte),
+        ("/* cnf", 1, CnfKind::UnclosedComment),
+        ("cnf('',axiom,p).", 5, CnfKind::BadToken),
+        ("cnf(a,axiom,'p", 13, CnfKind::UnclosedQuote),
+        ("cnf(a,axiom,p", 14, CnfKind::EndInItem),
+        ("include('x').", 1, CnfKind::Include),
+        ("fof(a,axiom,p).", 1, CnfKind::NotCnf),
+        ("cnf(a,axiom,p(1)).", 15, CnfKind::Number),
+        ("cnf(a,axiom,\"p\").", 13, CnfKind::DistinctObject),
+        ("cnf(a,axiom,X = Y).", 15, CnfKind::Equality),
+        ("cnf(a,axiom,p))", 15, CnfKind::Unexpected),
         (
-            "cnf(a,axiom,p).\ncnf(b,axiom,p).",
-            2,
-            1,
+            "cnf(a,axiom,p). cnf(b,axiom,p).",
+            17,
             CnfKind::TooManyClauses,
         ),
-        ("cnf(a,axiom,p|~q).", 1, 15, CnfKind::TooManyLiterals),
-        ("cnf(a,axiom,p,[X,X,Y]).", 1, 20, CnfKind::TooManyVariables),
-        ("cnf(a,axiom,p(X,X)).", 1, 17, CnfKind::ArityTooLarge),
-        ("cnf(a,axiom,p(f(a))).", 1, 17, CnfKind::TooDeep),
+        ("cnf(a,axiom,p|~q).", 15, CnfKind::TooManyLiterals),
+        ("cnf(a,axiom,p,[X,X,Y]).", 20, CnfKind::TooManyVariables),
+        ("cnf(a,axiom,p(X,X)).", 17, CnfKind::ArityTooLarge),
+        ("cnf(a,axiom,p(f(a))).", 17, CnfKind::TooDeep),
+        // An upper word in the place of an atom is refused at the token after it.
+        ("cnf(a,axiom,X|p).", 14, CnfKind::Unexpected),
+        ("cnf(a,axiom,X", 14, CnfKind::EndInItem),
     ] {
         let found = offence(rt.alloc(), file.as_bytes(), &SMALL)?;
-        assert_eq!(rt; found, Some((line, column, kind)), "at {file:?}");
+        assert_eq!(rt; found, Some((1, column, kind)), "at {file:?}");
     }
+    let file = b"cnf(a,axiom,p).\n\tfof(b,axiom,p).";
+    let found = offence(rt.alloc(), file, &SMALL)?;
+    assert_eq!(rt; found, Some((2, 2, CnfKind::NotCnf)));
+    Ok(())
+}
+
+// Kinds and places are shown as a run prints them.
+#[test]
+fn kinds_and_places_in_words(rt: HostRuntime) -> Result<(), Fail> {
+    for (number, kind, word) in [
+        (1, CnfKind::BadByte, "BadByte"),
+        (2, CnfKind::BadToken, "BadToken"),
+        (3, CnfKind::UnclosedComment, "UnclosedComment"),
+        (4, CnfKind::UnclosedQuote, "UnclosedQuote"),
+        (5, CnfKind::Unexpected, "Unexpected"),
+        (6, CnfKind::EndInItem, "EndInItem"),
+        (7, CnfKind::NotCnf, "NotCnf"),
+        (8, CnfKind::Include, "Include"),
+        (9, CnfKind::Equality, "Equality"),
+        (10, CnfKind::Number, "Number"),
+        (11, CnfKind::DistinctObject, "DistinctObject"),
+        (12, CnfKind::TooManyClauses, "TooManyClauses"),
+        (13, CnfKind::TooManyLiterals, "TooManyLiterals"),
+        (14, CnfKind::TooManyVariables, "TooManyVariables"),
+        (15, CnfKind::ArityTooLarge, "ArityTooLarge"),
+        (16, CnfKind::TooDeep, "TooDeep"),
+    ] {
+        assert_eq!(rt; kind as u8, number);
+        let shown = format!(in rt.alloc(); "{kind}")?;
+        assert_eq!(rt; shown.as_str(), word);
+    }
+    let place = Place {
+        line: 2,
+        column: 15,
+    };
+    let shown = format!(in rt.alloc(); "{place}")?;
+    assert_eq!(rt; shown.as_str(), "line 2 column 15");
+    let kind = CnfKind::TooDeep;
+    let shown = format!(in rt.alloc(); "{}", CnfError::At { place, kind })?;
+    assert_eq!(rt; shown.as_str(), "line 2 column 15 TooDeep");
     Ok(())
 }
 
@@ -152,7 +195,8 @@ fn repeated(
     Ok(file)
 }
 
-/// An item whose one literal has a term with so many functions above its constant, one in the other.
+/// An item whose one literal has a term with so many functions above its constant, one in the
+/// other.
 fn nested(alloc: Global, functions: usize) -> Result<Vec<u8>, Fail> {
     let mut item = repeated(alloc, "cnf(a,axiom,p(", "f(", functions, "a)")?;
     let closing = repeated(alloc, "", ")", functions, ").\n")?;

@@ -3,15 +3,15 @@ ghost use Rattle.std.specs.Prelude.{◌≡◌, ◌<◌, ◌≤◌, ◌++◌, Lis
 ghost use Rattle.pm_logic.specs.Term.{Term, as_terms, tree_at};
 ghost use Rattle.pm_logic.specs.Problem.{Symbol};
 ghost use Rattle.pm_logic.specs.View.{clause_of, label_of, literal_of};
-ghost use Rattle.pm_cnf.specs.Text.{arguments_text, clause_text, literal_text, literals_text, name_text, problem_text, symbol_text, term_text, variable_text};
-ghost use Rattle.pm_cnf.specs.Pending.{AreTerms, IsOver, IsTerm, pending_text};
+ghost use Rattle.pm_cnf.specs.Text.{arguments_text, clause_text, literal_text, literals_text, name_text, problem_text, term_text, variable_text};
+ghost use Rattle.pm_cnf.specs.Inside.Pending.{AreTerms, IsOver, IsTerm, pending_text};
 
 use itoa::Buffer;
-use pm_logic::{Clause, Literal, Name, Problem, Row, Symbols, TermId, write_word};
+use pm_logic::{Clause, Literal, Name, Problem, Row, TermId, write_symbol, write_word};
 use std::alloc::{AllocError, Global};
 
-/// The clauses of the problem as the text of a clause file: one line for each clause, in their order.
-/// The error is want of memory.
+/// The clauses of the problem as the text of a clause file: one line for each clause, in their
+/// order. The error is want of memory.
 pub fn write(alloc: Global, problem: &Problem) -> Result<Vec<u8>, AllocError>
     ensures { IfOk result (λ text. text.items ≡ problem_text problem.now) }
 {
@@ -30,7 +30,8 @@ fn write_clause(
     clause: &Clause,
 ) -> Result<(), AllocError>
     requires { All (IsOver problem.now.symbols problem.now.terms) clause.now.literals.items }
-    ensures { OnOk result (into.new.items ≡ into.old.items ++ clause_text problem.now.symbols (clause_of problem.now.terms clause.now)) }
+    ensures { OnOk result (into.new.items ≡ into.old.items
+        ++ clause_text problem.now.symbols (clause_of problem.now.terms clause.now)) }
 {
     into.extend_from_slice(b"cnf(")?;
     write_name(into, &clause.name)?;
@@ -59,7 +60,8 @@ fn write_literals(
     literals: &[Literal],
 ) -> Result<(), AllocError>
     requires { All (IsOver problem.now.symbols problem.now.terms) literals.now }
-    ensures { OnOk result (into.new.items ≡ into.old.items ++ literals_text problem.now.symbols (map (literal_of problem.now.terms) literals.now)) }
+    ensures { OnOk result (into.new.items ≡ into.old.items
+        ++ literals_text problem.now.symbols (map (literal_of problem.now.terms) literals.now)) }
 {
     let Some((first, others)) = literals.split_first() else {
         return into.extend_from_slice(b"$false");
@@ -80,7 +82,8 @@ fn write_literal(
     literal: &Literal,
 ) -> Result<(), AllocError>
     requires { IsOver problem.now.symbols problem.now.terms literal.now }
-    ensures { OnOk result (into.new.items ≡ into.old.items ++ literal_text problem.now.symbols (literal_of problem.now.terms literal.now)) }
+    ensures { OnOk result (into.new.items ≡ into.old.items
+        ++ literal_text problem.now.symbols (literal_of problem.now.terms literal.now)) }
 {
     if !literal.positive {
         into.push(b'~')?;
@@ -97,8 +100,8 @@ struct Pending<'a> {
     args: &'a [TermId],
 }
 
-// Appends the arguments between `(` and `)`, joined by `,`; nothing where there are none. Of the open
-// lists the innermost is the last.
+// Appends the arguments between `(` and `)`, joined by `,`; nothing where there are none. Of the
+// open lists the innermost is the last.
 fn write_arguments(
     alloc: Global,
     into: &mut Vec<u8>,
@@ -106,7 +109,9 @@ fn write_arguments(
     args: &[TermId],
 ) -> Result<(), AllocError>
     requires { All (IsTerm problem.now.symbols problem.now.terms) args.now }
-    ensures { OnOk result (into.new.items ≡ into.old.items ++ arguments_text problem.now.symbols (as_terms (map (tree_at problem.now.terms) args.now))) }
+    ensures { OnOk result (into.new.items ≡ into.old.items
+        ++ arguments_text problem.now.symbols
+        (as_terms (map (tree_at problem.now.terms) args.now))) }
 {
     let mut pending = Vec::new(alloc);
     begin(&mut pending, args)?;
@@ -128,8 +133,13 @@ fn write_arguments(
 
 // Opens the list of these arguments, if there are any.
 fn begin<'a>(pending: &mut Vec<Pending<'a>>, args: &'a [TermId]) -> Result<(), AllocError>
-    ensures text { (symbols : List Symbol) (terms : List Term) → OnOk result (pending_text symbols terms pending.new.items ≡ arguments_text symbols (as_terms (map (tree_at terms) args.now)) ++ pending_text symbols terms pending.old.items) }
-    ensures terms { (symbols : List Symbol) (terms : List Term) → All (IsTerm symbols terms) args.now → AreTerms symbols terms pending.old.items → OnOk result (AreTerms symbols terms pending.new.items) }
+    ensures text { (symbols : List Symbol) (terms : List Term)
+        → OnOk result (pending_text symbols terms pending.new.items
+        ≡ arguments_text symbols (as_terms (map (tree_at terms) args.now))
+        ++ pending_text symbols terms pending.old.items) }
+    ensures terms { (symbols : List Symbol) (terms : List Term)
+        → All (IsTerm symbols terms) args.now → AreTerms symbols terms pending.old.items
+        → OnOk result (AreTerms symbols terms pending.new.items) }
 {
     if !args.is_empty() {
         pending.push(Pending { mark: b'(', args })?;
@@ -144,8 +154,11 @@ fn write_head<'a>(
     term: TermId,
 ) -> Result<&'a [TermId], AllocError>
     requires { IsTerm problem.now.symbols problem.now.terms term }
-    ensures text { IfOk result (λ args. into.new.items ++ arguments_text problem.now.symbols (as_terms (map (tree_at problem.now.terms) args.now)) ≡ into.old.items ++ term_text problem.now.symbols (tree_at problem.now.terms term)) }
-    ensures terms { IfOk result (λ args. All (IsTerm problem.now.symbols problem.now.terms) args.now) }
+    ensures text { IfOk result (λ args. into.new.items
+        ++ arguments_text problem.now.symbols (as_terms (map (tree_at problem.now.terms) args.now))
+        ≡ into.old.items ++ term_text problem.now.symbols (tree_at problem.now.terms term)) }
+    ensures terms { IfOk result
+        (λ args. All (IsTerm problem.now.symbols problem.now.terms) args.now) }
     ensures longer { OnOk result (length into.old.items ≤ length into.new.items) }
 {
     match problem.terms().look(term) {
@@ -169,21 +182,13 @@ fn write_variable(into: &mut Vec<u8>, number: usize) -> Result<(), AllocError>
     into.extend_from_slice(buffer.format(number).as_bytes())
 }
 
-// Appends the word of the symbol of this number.
-fn write_symbol(into: &mut Vec<u8>, symbols: &Symbols, number: u32) -> Result<(), AllocError>
-    requires { number < length symbols.now }
-    ensures { OnOk result (into.new.items ≡ into.old.items ++ symbol_text symbols.now number) }
-{
-    write_word(into, symbols.text(number))
-}
-
 #[cfg(test)]
 mod tests {
     use super::*;
     use crate::error::CnfError;
     use crate::limits::Limits;
     use crate::reading::read;
-    use pm_logic::TermTable;
+    use pm_logic::{Symbols, TermTable};
     use std::test::Fail;
 
     // The problem of the empty clause of this name.

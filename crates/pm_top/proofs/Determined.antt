@@ -8,7 +8,7 @@ use Rattle.pm_cnf.specs.Lexemes.{line_of, column_of}
 use Rattle.pm_cnf.specs.Meaning.{IsProblemIn}
 use Rattle.pm_cnf.specs.Refusals.{before}
 use Rattle.pm_cnf.specs.Text.{problem_text}
-use Rattle.pm_cnf.proofs.Determined.{problem_is_determined, offence_is_determined}
+use Rattle.pm_cnf.proofs.meaning.Determined.{problem_is_determined, offence_is_determined}
 use Rattle.pm_outside.specs.Outside.{Files}
 use Rattle.pm_deepen.proofs.Determined.{answer_determined}
 use Rattle.pm_top.specs.declared.run.TheConstants.{MAX_FILE_BYTES}

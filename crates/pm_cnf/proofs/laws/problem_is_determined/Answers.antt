@@ -1,4 +1,4 @@
-use Rattle.pm_cnf.proofs.Determined.{problem_is_determined}
+use Rattle.pm_cnf.proofs.meaning.Determined.{problem_is_determined}
 use Rattle.pm_cnf.proofs.laws.problem_is_determined.Goals as goal
 
 pub returns : goal.returns

@@ -5,9 +5,9 @@ use Rattle.pm_logic.specs.Term.{Term}
 use Rattle.pm_logic.specs.Problem as logic
 use Rattle.pm_logic.specs.View.{clause_of}
 use Rattle.pm_cnf.specs.declared.item.Item.{Item}
-use Rattle.pm_cnf.specs.Parsed.{node_of, item_of}
-use Rattle.pm_cnf.proofs.ItemSteps.{ItemsSoFar, items_none, items_kept, items_dropped}
-use Rattle.pm_cnf.proofs.ReadItems.{item_read, name_printable, nodes_printable, items_more, item_room, terms_grow, nodes_hold, items_valid}
+use Rattle.pm_cnf.specs.Inside.Parsed.{node_of, item_of}
+use Rattle.pm_cnf.proofs.parts.ItemSteps.{ItemsSoFar, items_none, items_kept, items_dropped}
+use Rattle.pm_cnf.proofs.parts.ReadItems.{item_read, nodes_printable, items_more, item_room, terms_grow, nodes_hold, items_valid, item_name_printable}
 use Rattle.pm_cnf.proofs.number.number_items.Goals as goal
 use Rattle.pm_cnf.proofs.number.number_items.Goals.{then-is_kept+in_ok-clause+in_ok-push, else-is_kept}
 
@@ -18,7 +18,7 @@ pub clause-requires-clause-item : goal.clause-requires-clause-item
 clause-requires-clause-item c = let r = item_read c.args.items.now c.loop-item.item-index c.item-item.result c.requires c.loop-item-test.true c.item-item.is in (r.item, r.is)
 
 pub clause-requires-clause-name : goal.clause-requires-clause-name
-clause-requires-clause-name c = name_printable c.item-item.result (item_read c.args.items.now c.loop-item.item-index c.item-item.result c.requires c.loop-item-test.true c.item-item.is)
+clause-requires-clause-name c = item_name_printable c.item-item.result (item_read c.args.items.now c.loop-item.item-index c.item-item.result c.requires c.loop-item-test.true c.item-item.is)
 
 pub clause-requires-clause-few : goal.clause-requires-clause-few
 clause-requires-clause-few c = item_room c.args.items.now c.loop-item.item-index c.item-item.result _ _ _ c.requires c.loop-item-test.true c.item-item.is c.loop-item.invariant

@@ -1,6 +1,6 @@
 use Rattle.std.proofs.Common.{take, map}
-use Rattle.pm_cnf.specs.Parsed.{item_of}
-use Rattle.pm_cnf.proofs.ItemSteps.{ItemsSoFar}
+use Rattle.pm_cnf.specs.Inside.Parsed.{item_of}
+use Rattle.pm_cnf.proofs.parts.ItemSteps.{ItemsSoFar}
 use Rattle.pm_cnf.proofs.number.number_items.Given as goal
 
 abbrev pub invariant-loop-item : goal.invariant-loop-item

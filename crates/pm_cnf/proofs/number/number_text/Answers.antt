@@ -1,6 +1,6 @@
 use Rattle.std.proofs.Common.{refl, ap, ◌∙◌}
-use Rattle.pm_cnf.specs.Parts.{texts_of}
-use Rattle.pm_cnf.proofs.TextLemmas.{texts-insert, text_stands}
+use Rattle.pm_cnf.specs.Inside.Parts.{texts_of}
+use Rattle.pm_cnf.proofs.parts.TextLemmas.{texts-insert, text_stands}
 use Rattle.pm_cnf.proofs.number.number_text.Goals as goal
 
 pub returns-clause-texts : goal.returns-clause-texts

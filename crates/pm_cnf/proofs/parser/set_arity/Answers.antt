@@ -1,4 +1,4 @@
-use Rattle.pm_cnf.proofs.Arities.{arity_set, arity_beyond}
+use Rattle.pm_cnf.proofs.parsed.Arities.{arity_set, arity_beyond}
 use Rattle.pm_cnf.proofs.parser.set_arity.Goals as goal
 
 pub returns-in-Some : goal.returns-in-Some

@@ -1,7 +1,7 @@
 use Rattle.std.proofs.Common.{map, sym, subst}
-use Rattle.pm_cnf.specs.Parsed.{item_of}
-use Rattle.pm_cnf.specs.Readable.{AreReadable}
-use Rattle.pm_cnf.proofs.Progressing.{read_readable}
+use Rattle.pm_cnf.specs.Inside.Parsed.{item_of}
+use Rattle.pm_cnf.specs.Inside.Readable.{AreReadable}
+use Rattle.pm_cnf.proofs.parsed.Progressing.{read_readable}
 use Rattle.pm_cnf.proofs.reading.read.Goals as goal
 
 pub number_items-requires : goal.number_items-requires

@@ -1,5 +1,5 @@
 use Rattle.std.proofs.Common.{length, ◌-◌}
-use Rattle.pm_cnf.specs.Progress.{Progress}
+use Rattle.pm_cnf.specs.Inside.Progress.{Progress}
 use Rattle.pm_cnf.proofs.reading.read_items.Given as goal
 
 abbrev pub invariant-lexemes : goal.invariant-lexemes

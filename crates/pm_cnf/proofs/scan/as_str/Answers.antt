@@ -1,4 +1,4 @@
-use Rattle.pm_cnf.proofs.Scanning.{IsOk-from_utf8}
+use Rattle.pm_cnf.proofs.lexemes.Scanning.{IsOk-from_utf8}
 use Rattle.pm_cnf.proofs.scan.as_str.Goals as goal
 
 pub unwrap-requires : goal.unwrap-requires

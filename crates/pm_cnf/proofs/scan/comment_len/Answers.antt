@@ -1,7 +1,7 @@
 use Rattle.std.proofs.Common.{arith, ◌∙◌, sym}
 use Rattle.std.proofs.lemmas.Bool.Decides.{nat_tests}
 use Rattle.pm_cnf.specs.Lexemes.{is_star, is_slash, begins}
-use Rattle.pm_cnf.proofs.Scanning.{comment_goes_on, and_no-first, and_no-second}
+use Rattle.pm_cnf.proofs.lexemes.Scanning.{comment_goes_on, and_no-first, and_no-second}
 use Rattle.pm_cnf.proofs.scan.comment_len.Goals as goal
 use Rattle.pm_cnf.proofs.scan.comment_len.Goals.{else-byte-eq42-via-then-byte-eq42+else-begins_with, else-byte-eq42-via-else-byte-eq42}
 

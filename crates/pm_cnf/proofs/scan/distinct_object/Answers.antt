@@ -1,5 +1,5 @@
 use Rattle.pm_cnf.specs.Lexemes.{token, distinct, ending}
-use Rattle.pm_cnf.proofs.Scanning.{between-closed, between-fault}
+use Rattle.pm_cnf.proofs.lexemes.Scanning.{between-closed, between-fault}
 use Rattle.pm_cnf.proofs.scan.distinct_object.Goals as goal
 
 pub returns-in-Ok : goal.returns-in-Ok

@@ -1,6 +1,6 @@
 use Rattle.std.proofs.Common.{ℕ, take, subst, sym}
 use Rattle.std.specs.Str.{IsAscii}
-use Rattle.pm_cnf.proofs.Scanning.{IsAscii-dollar_word, dollar_len-parts}
+use Rattle.pm_cnf.proofs.lexemes.Scanning.{IsAscii-dollar_word, dollar_len-parts}
 use Rattle.pm_cnf.proofs.scan.dollar_word.Goals as goal
 
 pub as_str-requires : goal.as_str-requires

@@ -1,4 +1,4 @@
-use Rattle.pm_cnf.proofs.Scanning.{block_from}
+use Rattle.pm_cnf.proofs.lexemes.Scanning.{block_from}
 use Rattle.pm_cnf.proofs.scan.lexeme_from.Goals as goal
 
 pub returns-in-47 : goal.returns-in-47

@@ -1,4 +1,4 @@
-use Rattle.pm_cnf.proofs.Scanning.{IsAscii-number}
+use Rattle.pm_cnf.proofs.lexemes.Scanning.{IsAscii-number}
 use Rattle.pm_cnf.proofs.scan.number.Goals as goal
 
 pub as_str-requires : goal.as_str-requires

@@ -2,7 +2,7 @@ use Rattle.std.proofs.Common.{◌≡◌, List, ℕ, subst, sym, ap, ◌∙◌}
 use Rattle.std.specs.Str.{IsUtf8}
 use Rattle.std.proofs.lemmas.Str.{IsUtf8-from_ascii}
 use Rattle.pm_cnf.specs.Lexemes.{text_of}
-use Rattle.pm_cnf.proofs.Forms.{IsAscii-printables}
+use Rattle.pm_cnf.proofs.lexemes.Forms.{IsAscii-printables}
 use Rattle.pm_cnf.proofs.scan.quoted_text.Goals as goal
 
 pub unwrap-requires : goal.unwrap-requires

@@ -1,7 +1,7 @@
 use Rattle.std.proofs.Common.{◌+◌, arith, take, length-take, ap, sym, ◌∙◌, Ok}
 use Rattle.pm_cnf.specs.Lexemes.{Lexeme, quoted_word, ending}
-use Rattle.pm_cnf.proofs.Scanning.{between-closed, between-fault, closed_len-ok, quoted_word-some}
-use Rattle.pm_cnf.proofs.Forms.{ending_closes}
+use Rattle.pm_cnf.proofs.lexemes.Scanning.{between-closed, between-fault, closed_len-ok, quoted_word-some}
+use Rattle.pm_cnf.proofs.lexemes.Forms.{ending_closes}
 use Rattle.pm_cnf.proofs.scan.quoted_word.Goals as goal
 
 pub as_str-requires : goal.as_str-requires

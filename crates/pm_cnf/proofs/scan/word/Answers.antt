@@ -1,4 +1,4 @@
-use Rattle.pm_cnf.proofs.Scanning.{IsAscii-word}
+use Rattle.pm_cnf.proofs.lexemes.Scanning.{IsAscii-word}
 use Rattle.pm_cnf.proofs.scan.word.Goals as goal
 
 pub as_str-requires : goal.as_str-requires

@@ -1,7 +1,7 @@
 use Rattle.std.proofs.Common.{ℕ, ◌++◌, List, sym, ap, ◌∙◌}
-use Rattle.pm_cnf.specs.Pending.{pending_text}
-use Rattle.pm_cnf.proofs.OverSymbols.{terms-begun}
-use Rattle.pm_cnf.proofs.PendingText.{pending_text-push, rest_text-begun}
+use Rattle.pm_cnf.specs.Inside.Pending.{pending_text}
+use Rattle.pm_cnf.proofs.written.OverSymbols.{terms-begun}
+use Rattle.pm_cnf.proofs.written.PendingText.{pending_text-push, rest_text-begun}
 use Rattle.pm_cnf.proofs.writing.begin.Goals as goal
 
 pub returns-in_ok-push-clause-text : goal.returns-in_ok-push-clause-text

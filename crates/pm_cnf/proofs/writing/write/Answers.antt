@@ -5,8 +5,8 @@ use Rattle.std.specs.List.{flat_map}
 use Rattle.pm_logic.specs.Problem.{Clause}
 use Rattle.pm_logic.specs.View.{clause_of}
 use Rattle.pm_cnf.specs.Text.{clause_text}
-use Rattle.pm_cnf.proofs.OverSymbols.{literals-over}
-use Rattle.pm_cnf.proofs.PendingText.{flat_map-next}
+use Rattle.pm_cnf.proofs.written.OverSymbols.{literals-over}
+use Rattle.pm_cnf.proofs.written.PendingText.{flat_map-next}
 use Rattle.pm_cnf.proofs.writing.write.Goals as goal
 
 pub loop-i-preserved : goal.loop-i-preserved

@@ -4,8 +4,8 @@ use Rattle.std.proofs.lemmas.List.Elements.{All-nil}
 use Rattle.pm_logic.specs.Term.{as_terms, tree_at}
 use Rattle.pm_cnf.specs.declared.writing.Pending.{Pending}
 use Rattle.pm_cnf.specs.Text.{arguments_text}
-use Rattle.pm_cnf.specs.Pending.{IsTerm, AreTerms, pending_text}
-use Rattle.pm_cnf.proofs.PendingText.{text-closed, text-next, text-shorter, text-whole, terms-outer, terms-first, terms-kept}
+use Rattle.pm_cnf.specs.Inside.Pending.{IsTerm, AreTerms, pending_text}
+use Rattle.pm_cnf.proofs.written.PendingText.{text-closed, text-next, text-shorter, text-whole, terms-outer, terms-first, terms-kept}
 use Rattle.pm_cnf.proofs.writing.write_arguments.Goals as goal
 
 pub loop-list-init : goal.loop-list-init

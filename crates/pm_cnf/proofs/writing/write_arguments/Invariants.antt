@@ -1,7 +1,7 @@
 use Rattle.std.proofs.Common.{◌≡◌, ◌++◌, length, map}
 use Rattle.pm_logic.specs.Term.{as_terms, tree_at}
 use Rattle.pm_cnf.specs.Text.{arguments_text}
-use Rattle.pm_cnf.specs.Pending.{AreTerms, pending_text}
+use Rattle.pm_cnf.specs.Inside.Pending.{AreTerms, pending_text}
 use Rattle.pm_cnf.proofs.writing.write_arguments.Given as goal
 
 -- with what is pending the text is whole

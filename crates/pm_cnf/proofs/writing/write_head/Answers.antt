@@ -1,6 +1,6 @@
 use Rattle.std.proofs.Common.{◌≡◌, List, map, subst}
 use Rattle.pm_logic.specs.Term.{Term, app, as_terms, tree_at}
-use Rattle.pm_cnf.proofs.OverSymbols.{args-over}
+use Rattle.pm_cnf.proofs.written.OverSymbols.{args-over}
 use Rattle.pm_cnf.proofs.writing.write_head.Goals as goal
 
 pub returns-in_ok-write_symbol-in-App-clause-terms : goal.returns-in_ok-write_symbol-in-App-clause-terms

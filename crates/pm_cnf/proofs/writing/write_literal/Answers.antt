@@ -1,6 +1,6 @@
 use Rattle.std.proofs.Common.{All, sym, subst}
-use Rattle.pm_cnf.specs.Pending.{IsTerm}
-use Rattle.pm_cnf.proofs.OverSymbols.{literal_args-over}
+use Rattle.pm_cnf.specs.Inside.Pending.{IsTerm}
+use Rattle.pm_cnf.proofs.written.OverSymbols.{literal_args-over}
 use Rattle.pm_cnf.proofs.writing.write_literal.Goals as goal
 
 pub write_arguments-requires : goal.write_arguments-requires

@@ -7,9 +7,9 @@ use Rattle.pm_logic.specs.declared.problem.Literal.{Literal}
 use Rattle.pm_logic.specs.Problem as logic
 use Rattle.pm_logic.specs.Term.{Term}
 use Rattle.pm_logic.specs.View.{literal_of}
-use Rattle.pm_cnf.specs.Pending.{IsOver}
+use Rattle.pm_cnf.specs.Inside.Pending.{IsOver}
 use Rattle.pm_cnf.specs.Text.{literal_text, literals_text}
-use Rattle.pm_cnf.proofs.PendingText.{flat_map-next}
+use Rattle.pm_cnf.proofs.written.PendingText.{flat_map-next}
 use Rattle.pm_cnf.proofs.writing.write_literals.Goals as goal
 
 -- the text of a literal after another

@@ -1,12 +1,12 @@
 use Rattle.std.proofs.Common.{List, sym, ap, subst, ◌∙◌}
 use Rattle.std.specs.Prelude.{All, map}
 use Rattle.pm_logic.specs.Table.{variable_count}
+use Rattle.pm_logic.specs.Lists.{Gathers}
 use Rattle.pm_cnf.specs.declared.number.Part.{Part}
-use Rattle.pm_cnf.specs.Meaning.{Gathers}
-use Rattle.pm_cnf.specs.Parsed.{node_of}
-use Rattle.pm_cnf.specs.Parts.{IsArgument, AreWhole, applications_of, trees_of, tables}
-use Rattle.pm_cnf.proofs.Tabling.{AreParts}
-use Rattle.pm_cnf.proofs.Literals.{arguments_are, arguments_whole, arguments_terms, arguments_grow}
+use Rattle.pm_cnf.specs.Inside.Parsed.{node_of}
+use Rattle.pm_cnf.specs.Inside.Parts.{IsArgument, AreWellFormed, applications_of, trees_of, tables}
+use Rattle.pm_cnf.proofs.parts.Tabling.{AreParts}
+use Rattle.pm_cnf.proofs.parts.Literals.{arguments_are, arguments_whole, arguments_terms, arguments_grow}
 use Rattle.pm_cnf.proofs.number.Numbering.arguments.Goals as goal
 
 pub parts-requires-clause-args : goal.parts-requires-clause-args
@@ -16,7 +16,7 @@ pub build-requires : goal.build-requires
 build-requires c =
     let parts : AreParts (tables c.args.self.now.symbols c.args.self.now.terms c.args.texts.now.keys) (map node_of c.args.nodes.now) (tables c.parts.new.self.symbols c.parts.new.self.terms c.parts.new.texts.keys) c.in_ok-parts.parts.items =
     record { grows = c.in_ok-parts.ensures.grows; pairs = c.in_ok-parts.ensures.parts } in
-    subst (AreWhole (variable_count c.parts.new.self.terms)) (sym c.deref.ensures.value) (arguments_whole _ _ _ _ c.requires.args.0 c.requires.args.1 parts)
+    subst (AreWellFormed (variable_count c.parts.new.self.terms)) (sym c.deref.ensures.value) (arguments_whole _ _ _ _ c.requires.args.0 c.requires.args.1 parts)
 
 pub returns-clause-grows : goal.returns-clause-grows
 returns-clause-grows c =

@@ -1,6 +1,6 @@
 use Rattle.std.proofs.Common.{arith}
 use Rattle.pm_logic.specs.declared.problem.Clause.{Clause}
-use Rattle.pm_cnf.proofs.ItemSteps.{item_numbered, item_few}
+use Rattle.pm_cnf.proofs.parts.ItemSteps.{item_numbered, item_few}
 use Rattle.pm_cnf.proofs.number.Numbering.clause.Goals as goal
 
 pub overflow_cast-result : goal.overflow_cast-result

@@ -1,7 +1,7 @@
 use Rattle.std.proofs.Common.{inl, inr, refl, arith}
 use Rattle.pm_cnf.specs.declared.item.Node.TheVariants as nodes
-use Rattle.pm_cnf.specs.Parts.{tables}
-use Rattle.pm_cnf.proofs.NextNodes.{NextNodes, next_nodes, predicate_printable, arguments_printable, arguments_there, arguments_few, room_left, kept_step, constant_step, no_argument_step, end_step}
+use Rattle.pm_cnf.specs.Inside.Parts.{tables}
+use Rattle.pm_cnf.proofs.parts.NextNodes.{NextNodes, next_nodes, predicate_printable, next_printable, arguments_there, arguments_few, room_left, kept_step, constant_step, no_argument_step, end_step}
 use Rattle.pm_cnf.proofs.number.Numbering.literals.Goals as goal
 
 pub number_word-requires-clause-few : goal.number_word-requires-clause-few
@@ -29,7 +29,7 @@ arguments-requires-clause-few c =
 pub arguments-requires-clause-printable : goal.arguments-requires-clause-printable
 arguments-requires-clause-printable c =
     let n : NextNodes c.args.nodes.now c.literals.next c.arguments_len-len.result c.in-Some.head.now = next_nodes _ _ _ _ c.in-Some.ensures.lookup.0 c.in-Some.ensures.lookup.1 c.arguments_len-len.ensures.len c.arguments_len-len.ensures.within in
-    arguments_printable _ _ _ _ n c.requires.printable
+    next_printable _ _ _ _ n c.requires.printable
 
 pub literals-preserved : goal.literals-preserved
 literals-preserved c =

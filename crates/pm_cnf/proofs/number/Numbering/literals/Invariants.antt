@@ -1,7 +1,7 @@
 use Rattle.std.proofs.Common.{◌-◌, ◌≤◌, length, drop, map}
-use Rattle.pm_cnf.specs.Parsed.{node_of}
-use Rattle.pm_cnf.specs.Parts.{tables}
-use Rattle.pm_cnf.proofs.LiteralSteps.{LiteralsSoFar}
+use Rattle.pm_cnf.specs.Inside.Parsed.{node_of}
+use Rattle.pm_cnf.specs.Inside.Parts.{tables}
+use Rattle.pm_cnf.proofs.parts.LiteralSteps.{LiteralsSoFar}
 use Rattle.pm_cnf.proofs.number.Numbering.literals.Given as goal
 
 abbrev pub invariant-literals : goal.invariant-literals

@@ -2,9 +2,9 @@ use Rattle.std.proofs.Common.{inl, inr, false, []}
 use Rattle.pm_cnf.specs.declared.item.Node.TheVariants as nodes
 use Rattle.pm_cnf.specs.declared.item.Word.TheVariants as words
 use Rattle.pm_cnf.specs.declared.item.Node as code
-use Rattle.pm_cnf.specs.Parsed.{word_of}
-use Rattle.pm_cnf.proofs.Tabling.{parts_variable, parts_function}
-use Rattle.pm_cnf.proofs.CodeNodes.{node_more, function_printable, node_argument, room}
+use Rattle.pm_cnf.specs.Inside.Parsed.{word_of}
+use Rattle.pm_cnf.proofs.parts.Tabling.{parts_variable, parts_function}
+use Rattle.pm_cnf.proofs.parts.CodeNodes.{node_more, function_printable, node_argument, room}
 use Rattle.pm_cnf.proofs.number.Numbering.parts.Goals as goal
 use Rattle.pm_cnf.proofs.number.Numbering.parts.Goals.{in-Variable+in_ok-number-in-Variable+in_ok-add_variable-in-Variable+in_ok-push-in-Variable, in-Function+in_ok-symbol-in-Function+in_ok-push-in-Function, in-Predicate}
 

@@ -1,7 +1,7 @@
 use Rattle.std.proofs.Common.{take, map}
-use Rattle.pm_cnf.specs.Parsed.{node_of}
-use Rattle.pm_cnf.specs.Parts.{tables}
-use Rattle.pm_cnf.proofs.Tabling.{AreParts}
+use Rattle.pm_cnf.specs.Inside.Parsed.{node_of}
+use Rattle.pm_cnf.specs.Inside.Parts.{tables}
+use Rattle.pm_cnf.proofs.parts.Tabling.{AreParts}
 use Rattle.pm_cnf.proofs.number.Numbering.parts.Given as goal
 
 abbrev pub invariant-nodes : goal.invariant-nodes

@@ -1,5 +1,5 @@
 use Rattle.std.proofs.Common.{arith, rules}
-use Rattle.pm_cnf.proofs.VariableRows.{gathers_known, gathers_next, counts_next, AreVariables-next}
+use Rattle.pm_cnf.proofs.parts.VariableRows.{gathers_known, gathers_next, counts_next, AreVariables-next}
 use Rattle.pm_cnf.proofs.number.Terms.add_variable.Goals as goal
 
 pub returns-then-number-len-clause-gathers : goal.returns-then-number-len-clause-gathers

@@ -2,8 +2,8 @@ use Rattle.std.proofs.Common.{◌≡◌, ◌∙◌, ◌-◌, ◌++◌, ◌∷◌
 use Rattle.std.specs.Prelude.{reverse}
 use Rattle.std.proofs.lemmas.Option.{slice_get-get_or}
 use Rattle.pm_cnf.specs.declared.number.Part.{Part}
-use Rattle.pm_cnf.proofs.VariableRows.{AreVariables-application}
-use Rattle.pm_cnf.proofs.Building.{variable_below, built_variable, arity_within, args_within, built_function}
+use Rattle.pm_cnf.proofs.parts.VariableRows.{AreVariables-application}
+use Rattle.pm_cnf.proofs.parts.Building.{variable_below, built_variable, arity_within, args_within, built_function}
 use Rattle.pm_cnf.proofs.number.Terms.build.Goals as goal
 
 pub index-requires : goal.index-requires

@@ -1,4 +1,4 @@
-use Rattle.pm_cnf.proofs.Building.{Built}
+use Rattle.pm_cnf.proofs.parts.Building.{Built}
 use Rattle.pm_cnf.proofs.number.Terms.build.Given as goal
 
 abbrev pub invariant-parts : goal.invariant-parts

@@ -1,5 +1,5 @@
 use Rattle.std.proofs.Common.{ℕ, ◌-◌, ◌+◌, refl, arith, ap}
-use Rattle.pm_cnf.proofs.OpenLists.{one_more_begun, argument_allowed}
+use Rattle.pm_cnf.proofs.parsed.OpenLists.{one_more_begun, argument_allowed}
 use Rattle.pm_cnf.proofs.parser.Parser.count_argument.Goals as goal
 
 pub returns-clause-counts : goal.returns-clause-counts

@@ -1,0 +1,5 @@
+pub mod Pairs
+pub mod GatheredOnce
+pub mod Nodes
+pub mod ValidItems
+pub mod Determined

@@ -1,0 +1,4 @@
+pub mod FirstOffence
+pub mod Deciding
+pub mod Passing
+pub mod Within

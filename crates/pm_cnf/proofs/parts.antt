@@ -1,0 +1,11 @@
+pub mod PartTrees
+pub mod VariableRows
+pub mod TextLemmas
+pub mod Building
+pub mod Tabling
+pub mod CodeNodes
+pub mod Literals
+pub mod LiteralSteps
+pub mod NextNodes
+pub mod ItemSteps
+pub mod ReadItems

@@ -1,0 +1,8 @@
+pub mod PendingText
+pub mod OverSymbols
+pub mod WrittenWords
+pub mod WrittenItems
+pub mod Limited
+pub mod WrittenLimits
+pub mod WrittenProblem
+pub mod WrittenBack
