@@ -70,7 +70,7 @@ pub enum Bracket {
     Braces,
 }
 
-/// A list of arguments that isn't closed yet.
+// A list of arguments that isn't closed yet.
 #[derive(Clone, Copy, Debug, PartialEq, Eq)]
 struct OpenList {
     // Where the node of its symbol stands.

@@ -16,29 +16,29 @@ use crate::token::{Lexeme, Mark, Token};
 use std::alloc::{AllocError, Global};
 use std::str;
 
-/// Whether a byte is a blank: tab to carriage return, or space.
+// Whether a byte is a blank: tab to carriage return, or space.
 fn is_blank(byte: u8) -> bool
     ensures { result ≡ is_blank byte }
 {
     matches!(byte, 9..=13 | b' ')
 }
 
-/// Whether a byte may stand in a word behind its first letter.
+// Whether a byte may stand in a word behind its first letter.
 fn is_word_byte(byte: u8) -> bool
     ensures { result ≡ is_word_byte byte }
 {
     byte.is_ascii_alphanumeric() || byte == b'_'
 }
 
-/// Whether a byte is a character of a quoted word or a distinct object by itself, where it isn't
-/// the closing mark.
+// Whether a byte is a character of a quoted word or a distinct object by itself, where it isn't
+// the closing mark.
 fn is_plain_byte(byte: u8) -> bool
     ensures { result ≡ is_plain_byte byte }
 {
     matches!(byte, b' '..=b'~') && byte != b'\\'
 }
 
-/// How many word bytes the bytes begin with.
+// How many word bytes the bytes begin with.
 fn word_len(bytes: &[u8]) -> usize
     ensures len { result ≡ prefix_len is_word_byte bytes.now }
     ensures within { result ≤ length bytes.now }
@@ -46,7 +46,7 @@ fn word_len(bytes: &[u8]) -> usize
     bytes.iter().take_while(|byte| is_word_byte(**byte)).count()
 }
 
-/// How many digits the bytes begin with.
+// How many digits the bytes begin with.
 fn digits_len(bytes: &[u8]) -> usize
     ensures len { result ≡ digits_len bytes.now }
     ensures within { result ≤ length bytes.now }
@@ -57,7 +57,7 @@ fn digits_len(bytes: &[u8]) -> usize
         .count()
 }
 
-/// How many bytes come before the end of the line.
+// How many bytes come before the end of the line.
 fn line_len(bytes: &[u8]) -> usize
     ensures len { result ≡ prefix_len (λ b. not (is_line_end b)) bytes.now }
     ensures within { result ≤ length bytes.now }
@@ -75,35 +75,35 @@ fn sign_len(bytes: &[u8]) -> usize
     }
 }
 
-/// Whether the first byte is there and is a digit.
+// Whether the first byte is there and is a digit.
 fn begins_digit(bytes: &[u8]) -> bool
     ensures { result ≡ begins is_ascii_digit bytes.now }
 {
     bytes.first().is_some_and(|byte| byte.is_ascii_digit())
 }
 
-/// Whether the first byte is there and is a letter from `a` to `z`.
+// Whether the first byte is there and is a letter from `a` to `z`.
 fn begins_lowercase(bytes: &[u8]) -> bool
     ensures { result ≡ begins is_ascii_lowercase bytes.now }
 {
     bytes.first().is_some_and(|byte| byte.is_ascii_lowercase())
 }
 
-/// Whether the first byte is there and is the wanted one.
+// Whether the first byte is there and is the wanted one.
 fn begins_with(bytes: &[u8], wanted: u8) -> bool
     ensures { result ≡ begins (λ byte. byte == wanted) bytes.now }
 {
     bytes.first().is_some_and(|byte| *byte == wanted)
 }
 
-/// Whether the bytes begin with a digit, or with a sign and a digit.
+// Whether the bytes begin with a digit, or with a sign and a digit.
 fn begins_number(bytes: &[u8]) -> bool
     ensures { result ≡ begins_number bytes.now }
 {
     begins_digit(&bytes[sign_len(bytes)..])
 }
 
-/// The length of a sign, where there is one, and of the digits after it.
+// The length of a sign, where there is one, and of the digits after it.
 fn integer_len(bytes: &[u8]) -> usize
     ensures len { result ≡ integer_len bytes.now }
     ensures within { result ≤ length bytes.now }
@@ -112,7 +112,7 @@ fn integer_len(bytes: &[u8]) -> usize
     sign + digits_len(&bytes[sign..])
 }
 
-/// The length of a fraction at the front, or 0 where none is whole.
+// The length of a fraction at the front, or 0 where none is whole.
 fn fraction_len(bytes: &[u8]) -> usize
     ensures len { result ≡ fraction_len bytes.now }
     ensures within { result ≤ length bytes.now }
@@ -123,7 +123,7 @@ fn fraction_len(bytes: &[u8]) -> usize
     }
 }
 
-/// The length of an exponent at the front, or 0 where none is whole.
+// The length of an exponent at the front, or 0 where none is whole.
 fn exponent_len(bytes: &[u8]) -> usize
     ensures len { result ≡ exponent_len bytes.now }
     ensures within { result ≤ length bytes.now }
@@ -134,7 +134,7 @@ fn exponent_len(bytes: &[u8]) -> usize
     }
 }
 
-/// The length of a number with each part that is whole.
+// The length of a number with each part that is whole.
 fn number_len(bytes: &[u8]) -> usize
     ensures len { result ≡ number_len bytes.now }
     ensures within { result ≤ length bytes.now }
@@ -144,7 +144,7 @@ fn number_len(bytes: &[u8]) -> usize
     decimal + exponent_len(&bytes[decimal..])
 }
 
-/// How many bytes a block comment has after its opening mark, its closing mark included.
+// How many bytes a block comment has after its opening mark, its closing mark included.
 fn comment_len(bytes: &[u8]) -> Option<usize>
     ensures len { result ≡ comment_len bytes.now }
     ensures within { IfSome result (λ n. n ≤ length bytes.now) }
@@ -161,8 +161,8 @@ fn comment_len(bytes: &[u8]) -> Option<usize>
     None
 }
 
-/// How many bytes the characters up to the closing mark have, or the offence where there is no such
-/// mark behind characters.
+// How many bytes the characters up to the closing mark have, or the offence where there is no such
+// mark behind characters.
 fn characters_len(closing: u8, bytes: &[u8]) -> Result<usize, CnfKind>
     ensures len { result ≡ closed_len (ending closing bytes.now) }
     ensures within { IfOk result (λ n. n < length bytes.now) }
@@ -183,7 +183,7 @@ fn characters_len(closing: u8, bytes: &[u8]) -> Result<usize, CnfKind>
     Err(CnfKind::UnclosedQuote)
 }
 
-/// Whether the first byte may stand behind `\`.
+// Whether the first byte may stand behind `\`.
 fn is_escaped(closing: u8, bytes: &[u8]) -> bool
     ensures { result ≡ begins (λ next. (next == closing) || (next == 92)) bytes.now }
 {
@@ -192,7 +192,7 @@ fn is_escaped(closing: u8, bytes: &[u8]) -> bool
         .is_some_and(|next| *next == closing || *next == b'\\')
 }
 
-/// ASCII bytes as text.
+// ASCII bytes as text.
 fn as_str(bytes: &[u8]) -> &str
     requires { IsAscii bytes.now }
     ensures { result.now ≡ bytes.now }
@@ -200,7 +200,7 @@ fn as_str(bytes: &[u8]) -> &str
     str::from_utf8(bytes).unwrap()
 }
 
-/// A block comment whose opening mark stands before the bytes.
+// A block comment whose opening mark stands before the bytes.
 fn block_comment(bytes: &[u8]) -> (Lexeme<'_>, usize)
     ensures { (lexeme_of result.0, result.1) ≡ comment_of (comment_len bytes.now) }
 {
@@ -210,7 +210,7 @@ fn block_comment(bytes: &[u8]) -> (Lexeme<'_>, usize)
     }
 }
 
-/// A quoted word whose opening mark stands before the bytes.
+// A quoted word whose opening mark stands before the bytes.
 fn quoted_word(bytes: &[u8]) -> (Lexeme<'_>, usize)
     ensures { (lexeme_of result.0, result.1) ≡ quoted_at bytes.now }
 {
@@ -221,7 +221,7 @@ fn quoted_word(bytes: &[u8]) -> (Lexeme<'_>, usize)
     }
 }
 
-/// A distinct object whose opening mark stands before the bytes.
+// A distinct object whose opening mark stands before the bytes.
 fn distinct_object(bytes: &[u8]) -> (Lexeme<'_>, usize)
     ensures { (lexeme_of result.0, result.1) ≡ distinct_at bytes.now }
 {
@@ -231,7 +231,7 @@ fn distinct_object(bytes: &[u8]) -> (Lexeme<'_>, usize)
     }
 }
 
-/// How many dollar signs the bytes begin with, of the first two.
+// How many dollar signs the bytes begin with, of the first two.
 fn dollars_len(bytes: &[u8]) -> usize
     ensures len { result ≡ dollars_len bytes.now }
     ensures within { result ≤ length bytes.now }
@@ -243,7 +243,7 @@ fn dollars_len(bytes: &[u8]) -> usize
         .count()
 }
 
-/// A dollar word, from its first dollar sign on.
+// A dollar word, from its first dollar sign on.
 fn dollar_word(bytes: &[u8]) -> (Lexeme<'_>, usize)
     ensures { (lexeme_of result.0, result.1) ≡ dollar_at bytes.now }
 {
@@ -256,7 +256,7 @@ fn dollar_word(bytes: &[u8]) -> (Lexeme<'_>, usize)
     (Lexeme::Token(Token::Dollar(as_str(&bytes[..len]))), len)
 }
 
-/// The number that the bytes begin with, with each part that is whole.
+// The number that the bytes begin with, with each part that is whole.
 fn number(bytes: &[u8]) -> &str
     ensures text { result.now ≡ take (number_len bytes.now) bytes.now }
     ensures len { length result.now ≡ number_len bytes.now }
@@ -264,7 +264,7 @@ fn number(bytes: &[u8]) -> &str
     as_str(&bytes[..number_len(bytes)])
 }
 
-/// The word bytes that the bytes begin with.
+// The word bytes that the bytes begin with.
 fn word(bytes: &[u8]) -> &str
     ensures text { result.now ≡ front is_word_byte bytes.now }
     ensures len { length result.now ≡ prefix_len is_word_byte bytes.now }
@@ -294,7 +294,7 @@ fn mark_of(byte: u8) -> Option<Mark>
     }
 }
 
-/// A mark, or the offence of a byte that begins nothing.
+// A mark, or the offence of a byte that begins nothing.
 fn mark(byte: u8) -> Lexeme<'static>
     ensures { lexeme_of result ≡ mark_lexeme (mark_of byte) }
 {
@@ -304,7 +304,7 @@ fn mark(byte: u8) -> Lexeme<'static>
     }
 }
 
-/// What stands at the front of the bytes, which are the first and the rest.
+// What stands at the front of the bytes, which are the first and the rest.
 fn lexeme_from<'a>(bytes: &'a [u8], first: u8, rest: &'a [u8]) -> (Lexeme<'a>, usize)
     requires { bytes.now ≡ first ∷ rest.now }
     ensures { (lexeme_of result.0, result.1) ≡ lexeme_from first rest.now }
@@ -367,7 +367,7 @@ fn line_ends(bytes: &[u8]) -> usize
     bytes.iter().filter(|byte| **byte == b'\n').count()
 }
 
-/// How many bytes come after the last end of a line.
+// How many bytes come after the last end of a line.
 fn last_line_len(bytes: &[u8]) -> usize
     ensures len { result ≡ prefix_len (λ b. not (is_line_end b)) (reverse bytes.now) }
     ensures within { result ≤ length bytes.now }
@@ -379,7 +379,7 @@ fn last_line_len(bytes: &[u8]) -> usize
         .count()
 }
 
-/// The bytes of characters, each `\` with the byte after it read as that byte.
+// The bytes of characters, each `\` with the byte after it read as that byte.
 fn unescape(alloc: Global, characters: &[u8]) -> Result<Vec<u8>, AllocError>
     ensures { IfOk result (λ text. text.items ≡ text_of characters.now) }
 {
@@ -414,7 +414,7 @@ mod tests {
     use super::*;
     use std::test::Fail;
 
-    /// The only lexeme of the text is this token.
+    // The only lexeme of the text is this token.
     fn is_token(text: &str, token: Token<'_>) -> bool {
         lexeme_at(text.as_bytes()) == Some((Lexeme::Token(token), text.len()))
     }
@@ -587,7 +587,7 @@ mod tests {
         Ok(())
     }
 
-    /// The place behind the text is this one.
+    // The place behind the text is this one.
     fn ends_at(text: &str, line: u32, column: u32) -> bool {
         text.len() < 100 && place_at(text.as_bytes(), text.len()) == Place { line, column }
     }

@@ -1,3 +1,4 @@
+//! Tests of reading and writing: rows of the format with their places, and whole files.
 use crate::{CnfError, CnfKind, Limits, Place, read, write};
 use pm_logic::{Kind, Problem};
 use std::alloc::Global;
@@ -11,7 +12,7 @@ const SMALL: Limits = Limits {
     nesting: 1,
 };
 
-/// Reads a file of at most 16,777,216 bytes, with limits within the standard ones.
+// Reads a file of at most 16,777,216 bytes, with limits within the standard ones.
 fn read_file(alloc: Global, file: &[u8], limits: &Limits) -> Result<Problem, CnfError> {
     let most = Limits::standard();
     if file.len() > 16_777_216
@@ -26,7 +27,7 @@ fn read_file(alloc: Global, file: &[u8], limits: &Limits) -> Result<Problem, Cnf
     read(alloc, file, limits)
 }
 
-/// The kind and the place of a file's first offence, if it has one.
+// The kind and the place of a file's first offence, if it has one.
 fn offence(
     alloc: Global,
     file: &[u8],
@@ -179,7 +180,7 @@ fn a_file_cut_short(rt: HostRuntime) -> Result<(), Fail> {
     Ok(())
 }
 
-/// `before`, then `part` so many times, then `after`.
+// `before`, then `part` so many times, then `after`.
 fn repeated(
     alloc: Global,
     before: &str,
@@ -195,8 +196,8 @@ fn repeated(
     Ok(file)
 }
 
-/// An item whose one literal has a term with so many functions above its constant, one in the
-/// other.
+// An item whose one literal has a term with so many functions above its constant, one in the
+// other.
 fn nested(alloc: Global, functions: usize) -> Result<Vec<u8>, Fail> {
     let mut item = repeated(alloc, "cnf(a,axiom,p(", "f(", functions, "a)")?;
     let closing = repeated(alloc, "", ")", functions, ").\n")?;
@@ -221,7 +222,7 @@ fn limits_of_literals_and_nesting(rt: HostRuntime) -> Result<(), Fail> {
     Ok(())
 }
 
-/// How many clauses a file of 16,777,216 bytes has.
+// How many clauses a file of 16,777,216 bytes has.
 fn clauses_of_longest(alloc: Global, file: &[u8]) -> Result<u32, Fail> {
     if file.len() != 16_777_216 {
         return Err(Fail::from("the file is shorter or longer"));

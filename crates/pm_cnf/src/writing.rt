@@ -92,10 +92,10 @@ fn write_literal(
     write_arguments(alloc, into, problem, &literal.args)
 }
 
-/// What is to be written of a list of arguments that is open.
+// What is to be written of a list of arguments that is open.
 #[derive(Clone, Copy)]
 struct Pending<'a> {
-    /// The byte before the next argument.
+    // The byte before the next argument.
     mark: u8,
     args: &'a [TermId],
 }
