@@ -7,7 +7,7 @@ use Rattle.pm_store.specs.declared.resolver.Place.{Place}
 use Rattle.pm_store.specs.declared.resolver.Place.TheVariants.{Visit}
 use Rattle.pm_store.specs.Equations.{Equations}
 use Rattle.pm_store.specs.Resolved.{Resolved, IsResolved, IsMore}
-use Rattle.pm_store.specs.Pending.{IsReadyAt, AreReady, Comes}
+use Rattle.pm_store.specs.Inside.Pending.{IsReadyAt, AreReady, Comes}
 
 pub more_none : (r : Resolved) (table : List Term) → IsMore r table r table
 more_none r table = record {

@@ -1,7 +1,6 @@
 -- What always holds of a store.
 use Rattle.std.specs.Prelude.{ℕ, suc, ◌<◌, List, [], ◌∷◌, All, length}
-use Rattle.pm_store.specs.declared.store.Entry.{Entry}
-use Rattle.pm_store.specs.declared.store.Entry.TheVariants.{Variable, Application}
+use Rattle.pm_store.specs.Entries.{Entry, Variable, Application}
 use Rattle.pm_store.specs.Equations.{Binding, Equations, IsFree}
 use Rattle.pm_store.specs.Trees.{tree, Occurs}
 

@@ -1,8 +1,7 @@
 -- The trees of cells in which each free variable stands for itself.
-use Rattle.std.specs.Prelude.{◌≡◌, ℕ, ◌+◌, ◌⊎◌, ◌==◌, if◌then◌else◌, List, [], ◌∷◌, ◌++◌, length, map}
+use Rattle.std.specs.Prelude.{◌≡◌, ℕ, ◌+◌, ◌<◌, ◌⊎◌, ◌==◌, if◌then◌else◌, List, [], ◌∷◌, ◌++◌, length, map}
 use Rattle.pm_logic.specs.Term.{Term, var, app, Terms, no_terms, more_terms, as_terms, tree_at}
-use Rattle.pm_store.specs.declared.store.Entry.{Entry}
-use Rattle.pm_store.specs.declared.store.Entry.TheVariants.{Variable, Application}
+use Rattle.pm_store.specs.Entries.{Entry, Variable, Application}
 use Rattle.pm_store.specs.Equations.{Binding, Equations}
 
 -- the tree of the entry at a cell, over the trees of its arguments
@@ -32,6 +31,10 @@ tree_under cells (b ∷ bs) c = put_at b.variable (tree_under cells bs b.target)
 
 abbrev pub tree : Equations → ℕ → Term
 tree s = tree_under s.cells s.bindings
+
+-- the cells that were there have their trees still
+abbrev pub KeepsTrees : Equations → Equations → Type 0
+KeepsTrees old new = (c : ℕ) → c < length old.cells → tree new c ≡ tree old c
 
 -- a variable occurs in a term
 abbrev mutual

@@ -1,7 +1,7 @@
 -- What a look at a cell shows.
 use Rattle.std.specs.Prelude.{◌≡◌, ℕ, ◌<◌, Some, All, length, map, slice_get}
 use Rattle.pm_logic.specs.Term.{Term, app, as_terms}
-use Rattle.pm_store.specs.declared.store.Entry.TheVariants.{Application}
+use Rattle.pm_store.specs.Entries.{Application}
 use Rattle.pm_store.specs.declared.store.Cell.{Cell}
 use Rattle.pm_store.specs.declared.store.Cell.TheVariants.{Free, App}
 use Rattle.pm_store.specs.Equations.{Equations, IsFree}

@@ -4,9 +4,10 @@ ghost use Rattle.pm_logic.specs.Table.{variable_count};
 ghost use Rattle.pm_store.specs.Equations.{Equations, IsFree};
 ghost use Rattle.pm_store.specs.Solutions.{Solves};
 ghost use Rattle.pm_store.specs.Trees.{tree, fill};
+ghost use Rattle.pm_store.specs.Sound.{IsSound};
 ghost use Rattle.pm_store.specs.declared.resolver.Place.TheVariants.{Visit, Build};
 ghost use Rattle.pm_store.specs.Resolved.{Resolved, nothing_resolved, row_of, with_variables, numbered, IsResolved, IsMore};
-ghost use Rattle.pm_store.specs.Pending.{visits, IsReadyAt, Proceeds};
+ghost use Rattle.pm_store.specs.Inside.Pending.{visits, IsReadyAt, Proceeds};
 
 use crate::store::{Addr, Cell, Store};
 use indexmap::IndexMap;
@@ -198,6 +199,7 @@ impl Resolver {
         v: Addr,
         into: &mut TermTable,
     ) -> Result<TermId, AllocError>
+        requires sound { IsSound store.now }
         requires free { IsFree store.now v }
         requires resolved { IsResolved store.now self.old into.old }
         ensures row { IfOk result (λ row. row_of self.new v ≡ Some row) }
@@ -206,8 +208,6 @@ impl Resolver {
         ensures resolved { OnOk result (IsResolved store.now self.new into.new) }
         ensures more { IsMore self.old into.old self.new into.new }
     {
-        // For the proof: the store is sound.
-        let _cells = store.len();
         if let Some(row) = self.find(v) {
             return Ok(row);
         }

@@ -1,6 +1,8 @@
 ghost use Rattle.std.specs.Prelude.{◌≡◌, ◌<◌, ◌≤◌, length, IfOk, OnErr};
 ghost use Rattle.pm_store.specs.Marks.{IsLater};
-ghost use Rattle.pm_unify.specs.Unified.{Answers, Solved};
+ghost use Rattle.pm_store.specs.Sound.{IsSound};
+ghost use Rattle.pm_unify.specs.Unified.{Answers};
+ghost use Rattle.pm_unify.specs.Inside.Steps.{Solved};
 
 use crate::occurrence::occurs;
 use crate::pairs::{Pairs, Step};
@@ -27,6 +29,7 @@ pub fn unify(alloc: Global, store: &mut Store, a: Addr, b: Addr) -> Result<bool,
 // Binds variables until both cells are equal in every solution, or until there is none in which
 // they are. The bindings stay in each case.
 fn solve(alloc: Global, store: &mut Store, a: Addr, b: Addr) -> Result<bool, AllocError>
+    requires sound { IsSound store.old }
     requires left { a < length store.old.cells }
     requires right { b < length store.old.cells }
     ensures later { IsLater store.old store.new }
@@ -34,8 +37,6 @@ fn solve(alloc: Global, store: &mut Store, a: Addr, b: Addr) -> Result<bool, All
 {
     let mut pairs = Pairs::new(alloc, a, b)?;
     loop {
-        // For the proof: the store is sound.
-        let _cells = store.len();
         match pairs.next_step(store)? {
             Step::Done => return Ok(true),
             Step::Clash => return Ok(false),

@@ -4,7 +4,7 @@ use Rattle.pm_store.proofs.ListLemmas.{same_from_test, other_from_test}
 use Rattle.pm_store.proofs.ResolvedLemmas.{has_value, some_of, none_of}
 use Rattle.pm_store.proofs.VisitLemmas.{proceeds-known, proceeds-variable, proceeds-bound, proceeds-opened}
 use Rattle.pm_store.specs.Resolved.{row_of, with_variables}
-use Rattle.pm_store.specs.Pending.{visits}
+use Rattle.pm_store.specs.Inside.Pending.{visits}
 use Rattle.pm_store.proofs.resolver.Resolver.visit.Goals as goal
 
 pub returns-then-is_some-clause-ok : goal.returns-then-is_some-clause-ok

@@ -1,5 +1,5 @@
 use Rattle.pm_store.specs.Resolved.{IsMore}
-use Rattle.pm_store.specs.Pending.{work, Comes}
+use Rattle.pm_store.specs.Inside.Pending.{work, Comes}
 use Rattle.pm_store.proofs.resolver.Resolver.visit_all.Given as goal
 
 abbrev pub invariant-places : goal.invariant-places

@@ -1,10 +1,10 @@
 -- What is known of things that were gone into once, from those that are pending.
-use Rattle.std.specs.Prelude.{◌≡◌, ℕ, suc, ◌<◌, Bool, true, false, List, [], ◌∷◌, ◌++◌, All, Contains}
+use Rattle.std.specs.Prelude.{◌≡◌, ℕ, suc, ◌<◌, ◌⊎◌, Bool, true, false, List, [], ◌∷◌, ◌++◌, All, Contains}
 
 module _ {A : Type 0} where
-  -- a thing is noted as the last one, where it is new
+  -- a thing that counts as new may be noted, as the last one; any other was noted before
   abbrev pub Notes : List A → List A → A → Bool → Type 0
-  Notes before after x true = after ≡ before ++ x ∷ []
+  Notes before after x true = (after ≡ before) ⊎ (after ≡ before ++ x ∷ [])
   Notes before after x false = (after ≡ before) × Contains before x
 
   -- those of size below a number have a property
