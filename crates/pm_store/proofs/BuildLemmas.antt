@@ -18,7 +18,7 @@ use Rattle.pm_store.proofs.PendingLemmas.{work-less}
 use Rattle.pm_store.proofs.ReadyLemmas.{comes-built}
 use Rattle.pm_store.proofs.ResolvedLemmas.{with_row, has_value, value_of, row_stays, IsResolved-row, IsResolved-term}
 
-abbrev HaveRows : Resolved → List ℕ → Type 0
+abbrev pub HaveRows : Resolved → List ℕ → Type 0
 HaveRows r cells = All (λ c. row_of r c ≢ None) cells
 
 -- the variables of cells with rows have numbers
@@ -63,7 +63,7 @@ grown_resolved s r table grown symbol args row is adds =
     ]
 
 -- the application has its row
-built_row : (s : Equations) (r : Resolved) (table grown : List Term) (c symbol : ℕ) (args rows : List ℕ) (row : ℕ) → IsResolved s r table
+pub built_row : (s : Equations) (r : Resolved) (table grown : List Term) (c symbol : ℕ) (args rows : List ℕ) (row : ℕ) → IsResolved s r table
     → HaveRows r args → map Some rows ≡ map (row_of r) args → tree s c ≡ app symbol (as_terms (map (tree s) args))
     → Adds table grown (app symbol (as_terms (map (tree_at table) rows))) row → HasRow s r.free grown c row
 built_row s r table grown c symbol args rows row is all same shown adds = record {

@@ -1,12 +1,12 @@
 -- The variables in the trees of cells are free, and their trees take their place when a store grows.
-use Rattle.std.proofs.Common.{◌≡◌, ℕ, zero, suc, ◌+◌, ◌<◌, ◌⊎◌, inl, inr, if◌then◌else◌, List, [], ◌∷◌, length, map, get_or, Some, None, slice_get, refl, sym, ◌∙◌, ap, subst, arith}
+use Rattle.std.proofs.Common.{◌≡◌, ℕ, zero, suc, ◌+◌, ◌<◌, ◌⊎◌, inl, inr, List, [], ◌∷◌, length, map, get_or, Some, None, slice_get, refl, sym, ◌∙◌, subst, arith}
 use Rattle.std.specs.Prelude.{All}
 use Rattle.std.proofs.lemmas.Bool.{cases_eq}
 use Rattle.std.proofs.lemmas.List.Elements.{All-head, All-tail}
 use Rattle.std.proofs.lemmas.Option.{slice_get-get_or}
 use Rattle.pm_logic.specs.Term.{Term, var, app, Terms, no_terms, more_terms, as_terms}
 use Rattle.pm_store.specs.Entries.{Entry, Variable, Application}
-use Rattle.pm_store.specs.Equations.{Binding, Equations, target_of, IsFree}
+use Rattle.pm_store.specs.Equations.{Binding, target_of}
 use Rattle.pm_store.specs.Trees.{put_at, put_at_among, tree_of, tree_under, tree, Occurs, OccursAmong}
 use Rattle.pm_store.specs.Sound.{PointsBelow, PointDown, AreMade}
 use Rattle.pm_store.specs.Laws.{TreesAreOfFreeVariables, LaterTrees}

@@ -21,4 +21,5 @@ pub mod OpenLemmas
 pub mod VisitLemmas
 pub mod BuildLemmas
 pub mod ComesLemmas
+pub mod PartLemmas
 pub mod GivenLemmas

@@ -9,7 +9,7 @@ use Rattle.pm_logic.specs.Term.{Term, app, as_terms}
 use Rattle.pm_store.specs.declared.slots.Slot.{Slot}
 use Rattle.pm_store.specs.declared.slots.Slot.TheVariants.{Unbound, Bound, Made}
 use Rattle.pm_store.specs.Entries.{Entry, Variable, Application}
-use Rattle.pm_store.specs.Equations.{Equations, target_of, end_of, IsFree}
+use Rattle.pm_store.specs.Equations.{Equations, target_of, end_of}
 use Rattle.pm_store.specs.Solutions.{Solves}
 use Rattle.pm_store.specs.Sound.{PointsBelow, IsSound}
 use Rattle.pm_store.specs.Inside.Stored.{target_at}
@@ -17,7 +17,7 @@ use Rattle.pm_store.specs.Inside.Slots.{entry_of, target_in, targets_of, start_i
 use Rattle.pm_store.proofs.SlotLemmas.{laid_at}
 use Rattle.pm_store.proofs.FlatLemmas.{count_of}
 use Rattle.pm_store.proofs.TreeLemmas.{points_below}
-use Rattle.pm_store.proofs.BindingLemmas.{end_of-solved, end_of-unbound, end_of-target, target_within, steps, steps-target}
+use Rattle.pm_store.proofs.BindingLemmas.{end_of-solved, end_of-target, target_within, steps, steps-target}
 
 module _ (slots : List Slot) (args trail : List ℕ) (s : Equations) (view : flat_equations slots args trail ≡ s) (flat : IsFlat slots args trail)
     (place cell : ℕ) (same : place ≡ cell) (within : cell < length s.cells) where

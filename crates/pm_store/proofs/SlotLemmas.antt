@@ -1,11 +1,11 @@
 -- How cells and their arguments lie when one is added, or the last ones are taken away.
-use Rattle.std.proofs.Common.{◌≡◌, ℕ, zero, suc, ◌+◌, ◌<◌, ◌≤◌, List, [], ◌∷◌, ◌++◌, length, map, take, drop, set, get_or, Option, Some, None, slice_get, refl, sym, ◌∙◌, ap, ap₂, subst, arith}
-use Rattle.std.proofs.lemmas.List.{length_push, length-append, length-map, length-drop, length-take-le, map-append, take-map, take-append-drop, take-append-le, drop-append-le}
+use Rattle.std.proofs.Common.{◌≡◌, ℕ, zero, suc, ◌+◌, ◌<◌, ◌≤◌, List, [], ◌∷◌, ◌++◌, length, take, drop, set, get_or, Some, slice_get, refl, sym, ◌∙◌, ap, ap₂, subst, arith}
+use Rattle.std.proofs.lemmas.List.{length-drop, length-take-le, map-append, take-map, take-append-drop, take-append-le, drop-append-le}
 use Rattle.std.proofs.Math.Seq.{take-length, drop-append_seam}
 use Rattle.pm_store.specs.declared.slots.Slot.{Slot}
 use Rattle.pm_store.specs.declared.slots.Slot.TheVariants.{Unbound, Bound, Made}
-use Rattle.pm_store.specs.Entries.{Entry, Variable, Application}
-use Rattle.pm_store.specs.Inside.Slots.{entry_of, entries_of, target_in, targets_of, start_in, count_in, start_at, AreLaid}
+use Rattle.pm_store.specs.Entries.{Application}
+use Rattle.pm_store.specs.Inside.Slots.{entry_of, entries_of, start_in, count_in, start_at, AreLaid}
 
 laid_within : (from : ℕ) (ss : List Slot) (end : ℕ) → AreLaid from ss end → from ≤ end
 laid_within from [] end laid = omega (arith, laid)

@@ -1,12 +1,11 @@
 -- How what is kept of bindings changes.
-use Rattle.std.proofs.Common.{◌≡◌, ℕ, zero, suc, ◌+◌, ◌<◌, ◌≤◌, inl, inr, if◌then◌else◌, is_none, List, [], ◌∷◌, ◌++◌, length, map, reverse, take, set, Option, Result, Ok, Err, Some, None, OnOk, OnErr, IfOk, unwrap_or, slice_get, refl, sym, ◌∙◌, ap, ap₂, subst, arith}
-use Rattle.std.specs.Prelude.{All}
+use Rattle.std.proofs.Common.{◌≡◌, ℕ, zero, suc, ◌+◌, ◌<◌, ◌≤◌, inl, inr, if◌then◌else◌, is_none, List, [], ◌∷◌, ◌++◌, length, map, reverse, take, set, Option, Some, None, unwrap_or, slice_get, refl, sym, ◌∙◌, ap, ap₂, subst, arith}
 use Rattle.std.proofs.lemmas.Bool.{cases_eq, cases_lt}
 use Rattle.std.proofs.lemmas.List.{length_push, length-append, length-set, length-take, length-map, length-reverse, reverse-append, get_or-set_same, get_or-set_other, get_or-take, get_or_past, take_at, append_assoc}
 use Rattle.std.proofs.lemmas.Option.{slice_get_within}
 use Rattle.pm_store.specs.Entries.{Entry, Variable, Application}
 use Rattle.pm_store.specs.Equations.{Binding, Equations, with_cell, with_binding, target_of, IsFree, free_at, free_among, free_count}
-use Rattle.pm_store.specs.Sound.{PointsBelow, CanBind, AreMade, IsSound}
+use Rattle.pm_store.specs.Sound.{PointsBelow, CanBind, IsSound}
 use Rattle.pm_store.specs.Marks.{IsLater}
 use Rattle.pm_store.specs.Inside.Stored.{target_at, binding_at, bindings_of, equations_of, IsStored}
 use Rattle.pm_store.proofs.ListLemmas.{if_same, if_other}

@@ -7,9 +7,9 @@ use Rattle.std.proofs.lemmas.List.Elements.{All-head, All-tail, All-cons, All-we
 use Rattle.std.proofs.lemmas.Option.{slice_get-get_or}
 use Rattle.pm_logic.specs.Term.{Term, var, app, as_terms, tree_at}
 use Rattle.pm_store.specs.Entries.{Entry, Variable, Application}
-use Rattle.pm_store.specs.Equations.{Binding, Equations, target_of, IsFree}
+use Rattle.pm_store.specs.Equations.{Binding, target_of}
 use Rattle.pm_store.specs.Trees.{tree_of, trees_from, put_at, tree_under, tree, fill}
-use Rattle.pm_store.specs.Sound.{PointsBelow, PointDown, AreMade, IsSound}
+use Rattle.pm_store.specs.Sound.{PointsBelow, PointDown, AreMade}
 use Rattle.pm_store.specs.Laws.{TreesSolve, TreesAreGeneral, FreeVariablesStand}
 use Rattle.pm_store.proofs.ListLemmas.{if_same, if_other, map_agree}
 use Rattle.pm_store.proofs.TermLemmas.{put_at-absent, put_at-var, fill-put_at, put_at_among-as_terms, fill_among-as_terms}

@@ -20,7 +20,11 @@ with_cell s entry = record { cells = s.cells ++ entry ∷ []; bindings = s.bindi
 
 -- so many more cells, each a variable
 abbrev pub with_new_variables : Equations → ℕ → Equations
-with_new_variables s count = record { cells = s.cells ++ replicate count Variable; bindings = s.bindings }
+with_new_variables s count = record {
+  cells = s.cells
+      ++ replicate count Variable;
+  bindings = s.bindings;
+}
 
 abbrev pub with_binding : Equations → ℕ → ℕ → Equations
 with_binding s v t = record { cells = s.cells; bindings = record { variable = v; target = t } ∷ s.bindings }

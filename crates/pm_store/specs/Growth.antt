@@ -1,4 +1,4 @@
--- What holds when a store has got new cells. Each of these is opened only by a proof that asks for it.
+-- What holds when a store has got new cells: each fact is opened only by a proof that asks for it.
 use Rattle.std.specs.Prelude.{◌≡◌, ℕ, ◌+◌, ◌<◌, ◌≤◌, List, map}
 use Rattle.pm_logic.specs.Term.{Term, app, as_terms}
 use Rattle.pm_store.specs.Equations.{Equations, IsFree}
@@ -22,11 +22,12 @@ GainsVariables old new first count = record {
   sound : IsSound new;
 }
 
--- the new cell has the tree of the symbol over the arguments' trees, and each solution goes on with such a tree
+-- the new cell has the symbol over the arguments' trees, and each solution goes on with such a tree
 unfoldable pub GainsApplication : Equations → Equations → ℕ → List ℕ → ℕ → Type 0
 GainsApplication old new symbol args cell = record {
   tree : tree new cell ≡ app symbol (as_terms (map (tree old) args));
-  solutions : (trees : ℕ → Term) → Solves old trees → Solves new (with_tree trees cell (app symbol (as_terms (map trees args))));
+  solutions : (trees : ℕ → Term) → Solves old trees
+      → Solves new (with_tree trees cell (app symbol (as_terms (map trees args))));
   trees : KeepsTrees old new;
   sound : IsSound new;
 }

@@ -26,7 +26,10 @@ pub record HasMark (s : Equations) (mark : Counts) : Type 0 where
 
 -- the store with so many cells and bindings alone, the first ones
 abbrev pub at_mark : Equations → Counts → Equations
-at_mark s mark = record { cells = take mark.cells s.cells; bindings = drop (length s.bindings - mark.bindings) s.bindings }
+at_mark s mark = record {
+  cells = take mark.cells s.cells;
+  bindings = drop (length s.bindings - mark.bindings) s.bindings;
+}
 
 -- the mark counts no more cells and bindings than the other
 pub record IsEarlier (mark other : Counts) : Type 0 where

@@ -7,7 +7,8 @@ use Rattle.pm_store.specs.Equations.{Equations}
 -- Each cell has a tree: that of an application is its symbol over its arguments' trees, and a bound
 -- variable has the tree of what it is bound to. Trees are finite.
 pub record Solves (s : Equations) (tree : ℕ → Term) : Type 0 where
-  pub applications : (cell symbol : ℕ) (args : List ℕ) → slice_get s.cells cell ≡ Some (Application symbol args)
+  pub applications : (cell symbol : ℕ) (args : List ℕ)
+      → slice_get s.cells cell ≡ Some (Application symbol args)
       → tree cell ≡ app symbol (as_terms (map tree args))
   pub bindings : All (λ b. tree b.variable ≡ tree b.target) s.bindings
 

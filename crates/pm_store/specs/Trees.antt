@@ -12,7 +12,8 @@ tree_of tree cell (Application symbol args) = app symbol (as_terms (map tree arg
 -- the trees of entries, each over those before it
 abbrev pub trees_from : List Term → List Entry → List Term
 trees_from before [] = before
-trees_from before (e ∷ es) = trees_from (before ++ tree_of (tree_at before) (length before) e ∷ []) es
+trees_from before (e ∷ es) = trees_from (before
+    ++ tree_of (tree_at before) (length before) e ∷ []) es
 
 -- a term with another in the place of a variable
 abbrev mutual
@@ -65,3 +66,13 @@ abbrev mutual
   pub size_among : Terms → ℕ
   size_among no_terms = 0
   size_among (more_terms t ts) = size t + size_among ts
+
+-- the term stands in the other: it is this, or stands in an argument
+abbrev mutual
+  pub IsPart : Term → Term → Type 0
+  IsPart t (var n) = t ≡ var n
+  IsPart t (app symbol args) = (t ≡ app symbol args) ⊎ IsPartAmong t args
+
+  pub IsPartAmong : Term → Terms → Type 0
+  IsPartAmong t no_terms = ⊥
+  IsPartAmong t (more_terms u us) = IsPart t u ⊎ IsPartAmong t us

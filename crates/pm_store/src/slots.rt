@@ -38,7 +38,8 @@ pub fn start_before(slots: &Vec<Slot>, all: usize, cell: usize) -> usize
 /// Adds a variable. After want of memory nothing has changed.
 pub fn add_variable(slots: &mut Vec<Slot>, args: &Vec<Addr>) -> Result<usize, AllocError>
     ensures place { IfOk result (λ cell. cell ≡ length slots.old.items) }
-    ensures ok { OnOk result (slots.new.items ≡ slots.old.items ++ Unbound (length args.now.items) ∷ []) }
+    ensures ok { OnOk result (slots.new.items ≡ slots.old.items
+        ++ Unbound (length args.now.items) ∷ []) }
     ensures err { OnErr result (slots.new.items ≡ slots.old.items) }
 {
     let start = narrow(args.len())?;
@@ -54,7 +55,8 @@ pub fn add_variables(
     count: usize,
 ) -> Result<usize, AllocError>
     ensures place { IfOk result (λ first. first ≡ length slots.old.items) }
-    ensures ok { OnOk result (slots.new.items ≡ slots.old.items ++ replicate count (Unbound (length args.now.items))) }
+    ensures ok { OnOk result (slots.new.items ≡ slots.old.items
+        ++ replicate count (Unbound (length args.now.items))) }
     ensures err { OnErr result (slots.new.items ≡ slots.old.items) }
 {
     let start = narrow(args.len())?;
@@ -76,7 +78,8 @@ pub fn add_application(
     more: &[Addr],
 ) -> Result<usize, AllocError>
     ensures place { IfOk result (λ cell. cell ≡ length slots.old.items) }
-    ensures ok { OnOk result (slots.new.items ≡ slots.old.items ++ Made (length args.old.items) symbol (length more.now) ∷ []) }
+    ensures ok { OnOk result (slots.new.items ≡ slots.old.items
+        ++ Made (length args.old.items) symbol (length more.now) ∷ []) }
     ensures args { OnOk result (args.new.items ≡ args.old.items ++ more.now) }
     ensures err { OnErr result (slots.new.items ≡ slots.old.items) }
     ensures err_args { OnErr result (args.new.items ≡ args.old.items) }

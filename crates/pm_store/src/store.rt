@@ -99,8 +99,10 @@ impl Store {
     pub fn fresh(&mut self) -> Result<Addr, AllocError>
         ensures place { IfOk result (λ v. v ≡ length self.old.cells) }
         ensures ok { OnOk result (self.new ≡ with_cell self.old Variable) }
-        ensures solutions { OnOk result ((trees : ℕ → Term) → Solves self.new trees ↔ Solves self.old trees) }
-        ensures any_tree { IfOk result (λ v. (trees : ℕ → Term) (t : Term) → Solves self.old trees → Solves self.new (with_tree trees v t)) }
+        ensures solutions { OnOk result ((trees : ℕ → Term) → Solves self.new trees
+            ↔ Solves self.old trees) }
+        ensures any_tree { IfOk result (λ v. (trees : ℕ → Term) (t : Term)
+            → Solves self.old trees → Solves self.new (with_tree trees v t)) }
         ensures gains { IfOk result (GainsVariable self.old self.new) }
         ensures err { OnErr result (self.new ≡ self.old) }
     {
@@ -113,7 +115,8 @@ impl Store {
     pub fn fresh_many(&mut self, count: usize) -> Result<Addr, AllocError>
         ensures place { IfOk result (λ first. first ≡ length self.old.cells) }
         ensures ok { OnOk result (self.new ≡ with_new_variables self.old count) }
-        ensures solutions { OnOk result ((trees : ℕ → Term) → Solves self.new trees ↔ Solves self.old trees) }
+        ensures solutions { OnOk result ((trees : ℕ → Term) → Solves self.new trees
+            ↔ Solves self.old trees) }
         ensures any_trees { IfOk result (λ first. (trees others : ℕ → Term) → Solves self.old trees
             → Solves self.new (with_trees trees first others)) }
         ensures gains { IfOk result (λ first. GainsVariables self.old self.new first count) }
@@ -130,7 +133,8 @@ impl Store {
         requires { All (λ arg. arg < length self.old.cells) args.now }
         ensures place { IfOk result (λ cell. cell ≡ length self.old.cells) }
         ensures ok { OnOk result (self.new ≡ with_cell self.old (Application symbol args.now)) }
-        ensures solutions { IfOk result (λ cell. Narrows self.old self.new (λ trees. trees cell ≡ app symbol (as_terms (map trees args.now)))) }
+        ensures solutions { IfOk result (λ cell. Narrows self.old self.new (λ trees. trees cell
+            ≡ app symbol (as_terms (map trees args.now)))) }
         ensures gains { IfOk result (GainsApplication self.old self.new symbol args.now) }
         ensures err { OnErr result (self.new ≡ self.old) }
     {
@@ -144,7 +148,8 @@ impl Store {
         requires { a < length self.now.cells }
         ensures shown { Shows self.now (end_of self.now.bindings a) result }
         ensures tree { tree self.now a ≡ shown_tree (tree self.now) result }
-        ensures solutions { (trees : ℕ → Term) → Solves self.now trees → trees a ≡ shown_tree trees result }
+        ensures solutions { (trees : ℕ → Term) → Solves self.now trees
+            → trees a ≡ shown_tree trees result }
         ensures sound { IsSound self.now }
     {
         let end = self.end(a);
@@ -216,7 +221,8 @@ impl Store {
     pub fn bound_since(&self, mark: &Mark) -> &[Addr]
         requires { HasMark self.now mark.now }
         ensures variables { result.now ≡ bound_since self.now mark.now }
-        ensures free { (v : ℕ) → IsFree (at_mark self.now mark.now) v → IsFree self.now v ↔ (¬ Contains result.now v) }
+        ensures free { (v : ℕ) → IsFree (at_mark self.now mark.now) v → IsFree self.now v
+            ↔ (¬ Contains result.now v) }
     {
         &self.trail[mark.bindings..]
     }
@@ -225,7 +231,8 @@ impl Store {
     /// store is as it was. This takes no memory.
     pub fn undo(&mut self, mark: Mark)
         requires { HasMark self.old mark }
-        ensures before { (before : Equations) → IsLater before self.old → mark ≡ counts_of before → self.new ≡ before }
+        ensures before { (before : Equations) → IsLater before self.old
+            → mark ≡ counts_of before → self.new ≡ before }
         ensures at_mark { self.new ≡ at_mark self.old mark }
         ensures sound { IsSound self.new }
     {

@@ -28,7 +28,8 @@ pub fn occurs(alloc: Global, store: &Store, v: Addr, t: Addr) -> Result<bool, Al
 fn occurs_at_once(store: &Store, v: Addr, cells: &[Addr]) -> Option<bool>
     requires sound { IsSound store.now }
     requires within { All (λ c. c < length store.now.cells) cells.now }
-    ensures { IfSome result (λ answer. IsTrue answer ↔ OccursAmong v (as_terms (map (tree store.now) cells.now))) }
+    ensures { IfSome result (λ answer. IsTrue answer
+        ↔ OccursAmong v (as_terms (map (tree store.now) cells.now))) }
 {
     'cells: for &cell in cells.iter() {
         match store.look(cell) {

@@ -55,7 +55,8 @@ impl Pairs {
         requires sound { IsSound store.now }
         requires within { ArePairsWithin store.now self.old.pending.items }
         requires supported { AreSupported store.now self.old.pending.items self.old.taken.keys }
-        ensures { IfOk result (Takes store.now self.old.pending.items self.old.taken.keys self.new.pending.items self.new.taken.keys) }
+        ensures { IfOk result (Takes store.now self.old.pending.items self.old.taken.keys
+            self.new.pending.items self.new.taken.keys) }
     {
         while let Some((a, b)) = self.pending.pop() {
             if a == b {

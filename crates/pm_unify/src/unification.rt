@@ -175,7 +175,8 @@ mod tests {
 
     // f(X1, .., Xn) and f(g(X0, X0), .., g(Xm, Xm)), where m is n - 1.
     fn doublings(alloc: Global, store: &mut Store, times: usize) -> Result<(Addr, Addr), AllocError>
-        ensures { IfOk result (λ both. (both.0 < length store.new.cells) × (both.1 < length store.new.cells)) }
+        ensures { IfOk result (λ both. (both.0 < length store.new.cells)
+            × (both.1 < length store.new.cells)) }
     {
         let mut variables = Vec::new(alloc);
         let mut doubles = Vec::new(alloc);
@@ -208,7 +209,8 @@ mod tests {
 
     // f(X, g(X), a) and f(b, Y, Z).
     fn two_terms(store: &mut Store) -> Result<(Addr, Addr), AllocError>
-        ensures { IfOk result (λ both. (both.0 < length store.new.cells) × (both.1 < length store.new.cells)) }
+        ensures { IfOk result (λ both. (both.0 < length store.new.cells)
+            × (both.1 < length store.new.cells)) }
     {
         let x = store.fresh()?;
         let g_x = store.make(G, &[x])?;

@@ -1,4 +1,4 @@
--- How cells are kept: each with its symbol or what it is bound to, and the arguments of all in one list.
+-- How cells are kept: each with its symbol or its target, and the arguments of all in one list.
 use Rattle.std.specs.Prelude.{◌≡◌, ℕ, zero, suc, ◌+◌, List, [], ◌∷◌, Option, Some, None, length, map, take, drop}
 use Rattle.pm_store.specs.declared.slots.Slot.{Slot}
 use Rattle.pm_store.specs.declared.slots.Slot.TheVariants.{Unbound, Bound, Made}

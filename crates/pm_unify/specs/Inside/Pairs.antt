@@ -24,4 +24,5 @@ AreEqual trees pending taken = All (IsEqual trees) pending × All (IsEqual trees
 
 -- in each solution, smaller pairs that are equal make those taken apart equal
 abbrev pub AreSupported : Equations → List (ℕ × ℕ) → List (ℕ × ℕ) → Type 0
-AreSupported s pending taken = (trees : ℕ → Term) → Solves s trees → IsSupported (pair_size trees) (IsEqual trees) pending taken
+AreSupported s pending taken = (trees : ℕ → Term) → Solves s trees
+    → IsSupported (pair_size trees) (IsEqual trees) pending taken

@@ -13,5 +13,6 @@ module _ {A : Type 0} where
 
   -- each thing gone into has the property if those smaller than it, pending or gone into, have it
   abbrev pub IsSupported : (A → ℕ) → (A → Type 0) → List A → List A → Type 0
-  IsSupported size_of holds pending entered = (n : ℕ) → HoldBelow size_of holds n pending → HoldBelow size_of holds n entered
+  IsSupported size_of holds pending entered = (n : ℕ) → HoldBelow size_of holds n pending
+      → HoldBelow size_of holds n entered
       → HoldBelow size_of holds (suc n) entered

@@ -1,4 +1,4 @@
-use Rattle.std.proofs.Common.{ℕ, ◌≡◌, List, length, ◌<◌, ◌≤◌, sym, ◌∙◌, ap, subst}
+use Rattle.std.proofs.Common.{List, sym, ◌∙◌, ap}
 use Rattle.pm_store.specs.declared.slots.Slot.{Slot}
 use Rattle.pm_store.specs.Inside.Slots.{start_at}
 use Rattle.pm_store.proofs.SlotLemmas.{start_at-there, start_at-past}

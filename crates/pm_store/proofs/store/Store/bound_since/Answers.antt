@@ -1,6 +1,6 @@
-use Rattle.std.proofs.Common.{ℕ, ◌-◌, List, length, take, drop, sym, ◌∙◌, ap, ap₂, subst}
+use Rattle.std.proofs.Common.{ℕ, List, drop, sym, ◌∙◌, ap, subst}
 use Rattle.std.specs.Prelude.{◌↔◌, Contains}
-use Rattle.pm_store.specs.Equations.{Equations, IsFree}
+use Rattle.pm_store.specs.Equations.{IsFree}
 use Rattle.pm_store.specs.Inside.Slots.{targets_of}
 use Rattle.pm_store.specs.Marks.{Counts, bound_variables}
 use Rattle.pm_store.proofs.BoundLemmas.{in_order-stored, rest_is, bound_since_tells}

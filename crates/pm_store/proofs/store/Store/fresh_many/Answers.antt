@@ -2,7 +2,7 @@ use Rattle.std.proofs.Common.{◌∙◌, ap}
 use Rattle.pm_store.specs.Equations.{with_new_variables}
 use Rattle.pm_store.specs.Growth.{GainsVariables}
 use Rattle.pm_store.proofs.GrowthLemmas.{variables_free, variables_trees, variables_solutions, variables_any}
-use Rattle.pm_store.proofs.FlatLemmas.{sound_of, count_of, variables_flat, variables_added}
+use Rattle.pm_store.proofs.FlatLemmas.{sound_of, count_of, variables_added}
 use Rattle.pm_store.proofs.store.Store.fresh_many.Goals as goal
 
 pub invariant_of-self-2 : goal.invariant_of-self-2
