@@ -126,6 +126,15 @@ impl Store {
         Ok(Addr(first))
     }
 
+    /// The cell so many places after another: so the variables that were made at once are found.
+    pub fn cell_after(&self, first: Addr, count: usize) -> Addr
+        requires { first + count < length self.now.cells }
+        ensures { result ≡ first + count }
+    {
+        let _cells = self.slots.len();
+        Addr(first.0 + count)
+    }
+
     /// Adds an application of a symbol to cells of the store, and gives its address: the solutions are
     /// then the old ones in which the new cell's tree is the symbol over the arguments' trees. After
     /// want of memory the store is as before.
@@ -166,6 +175,7 @@ impl Store {
                     args: &self.args[from..to],
                 }
             }
+            // The end isn't bound.
             _ => Cell::Free(end),
         }
     }
@@ -313,6 +323,21 @@ mod tests {
         store.undo(mark);
         assert!(rt; is_free(&store, x, y));
         assert_eq!(rt; store.len(), 2);
+        Ok(())
+    }
+
+    #[test]
+    fn variables_bound_since_a_mark_are_listed(rt: HostRuntime) -> Result<(), Fail> {
+        let mut store = Store::new(rt.alloc());
+        let x = store.fresh_many(3)?;
+        let z = store.cell_after(x, 2);
+        let a = store.make(A, &[])?;
+        store.bind(x, a)?;
+        let mark = store.mark();
+        store.bind(z, a)?;
+        assert!(rt; store.bound_since(&mark) == [z].as_slice());
+        assert_eq!(rt; store.end(z), a);
+        assert_eq!(rt; store.len(), 4);
         Ok(())
     }
 
