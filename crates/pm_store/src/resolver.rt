@@ -1,3 +1,4 @@
+//! The terms of cells, as rows of a table.
 ghost use Rattle.std.specs.Prelude.{◌≡◌, ◌≢◌, ◌<◌, ◌≤◌, ◌++◌, ◌∷◌, [], ℕ, Some, None, All, IfOk, OnOk, OnErr, length, map, reverse, slice_get, slice_index_or};
 ghost use Rattle.pm_logic.specs.Term.{Term, tree_at};
 ghost use Rattle.pm_logic.specs.Table.{variable_count};

@@ -1,3 +1,4 @@
+//! The store: cells, bindings of variables, and marks to go back to.
 ghost use Rattle.std.specs.Prelude.{◌≡◌, ◌↔◌, ◌+◌, ◌<◌, ◌≤◌, ℕ, None, All, Contains, IfOk, OnOk, OnErr, length, map};
 ghost use Rattle.pm_logic.specs.Term.{Term, app, as_terms};
 ghost use Rattle.pm_store.specs.Entries.{Variable, Application};

@@ -1,3 +1,4 @@
+//! Whether a variable occurs in a cell's tree.
 ghost use Rattle.std.specs.Prelude.{◌≡◌, ◌↔◌, ◌<◌, All, length, map, IsTrue, IfOk, IfSome};
 ghost use Rattle.pm_logic.specs.Term.{as_terms};
 ghost use Rattle.pm_store.specs.Sound.{IsSound};

@@ -1,3 +1,4 @@
+//! Pairs of cells that are to be made equal, and how they are taken apart.
 ghost use Rattle.std.specs.Prelude.{◌≡◌, ◌<◌, ◌++◌, ◌∷◌, [], length, IfOk, OnOk};
 ghost use Rattle.std.specs.List.{zip};
 ghost use Rattle.pm_store.specs.Sound.{IsSound};

@@ -1,3 +1,4 @@
+//! The unification of two cells.
 ghost use Rattle.std.specs.Prelude.{◌≡◌, ◌<◌, ◌≤◌, length, IfOk, OnErr};
 ghost use Rattle.pm_store.specs.Marks.{IsLater};
 ghost use Rattle.pm_store.specs.Sound.{IsSound};
