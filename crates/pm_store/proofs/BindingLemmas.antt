@@ -1,10 +1,11 @@
 -- The cell at the end of bindings, and how far it is.
-use Rattle.std.proofs.Common.{◌≡◌, ℕ, ◌+◌, ◌<◌, inl, inr, ◌==◌, if◌then◌else◌, List, [], ◌∷◌, length, Some, None, refl, sym, ◌∙◌, ap, subst, arith}
+use Rattle.std.proofs.Common.{◌≡◌, ℕ, ◌+◌, ◌<◌, ◌≤◌, inl, inr, ◌==◌, if◌then◌else◌, List, [], ◌∷◌, length, Some, None, refl, sym, ◌∙◌, ap, subst, arith}
 use Rattle.std.specs.Prelude.{All}
 use Rattle.std.proofs.lemmas.Bool.{cases_eq}
 use Rattle.std.proofs.lemmas.List.Elements.{All-head, All-tail}
+use Rattle.std.proofs.lemmas.Option.{slice_get_within}
 use Rattle.pm_logic.specs.Term.{Term, var}
-use Rattle.pm_store.specs.declared.store.Entry.{Entry}
+use Rattle.pm_store.specs.Entries.{Entry, Variable}
 use Rattle.pm_store.specs.Equations.{Binding, Equations, target_of, end_of}
 use Rattle.pm_store.specs.Trees.{tree, Occurs}
 use Rattle.pm_store.specs.Sound.{PointDown, CanBind, AreMade, IsSound}
@@ -67,6 +68,17 @@ end_of-target cells (b ∷ bs) c d made bound =
   where
     either : (n v : ℕ) → (if n == v then n else n) ≡ n
     either n v = elim (cases_eq n v) [ inl e ↦ if_same n v n n e | inr ne ↦ if_other n v n n ne ]
+
+-- a cell beyond the cells isn't bound
+pub unbound_beyond : (cells : List Entry) (bs : List Binding) (v : ℕ) → AreMade cells bs → length cells ≤ v → target_of bs v ≡ None
+unbound_beyond cells [] v made beyond = refl
+unbound_beyond cells (b ∷ bs) v made beyond =
+    if_other b.variable v (Some b.target) (target_of bs v)
+    (apart b.variable v (length cells) (slice_get_within cells b.variable Variable made.0.free.variable) beyond)
+    ∙ unbound_beyond cells bs v made.1 beyond
+  where
+    apart : (m n k : ℕ) → m < k → k ≤ n → m ≡ n → ⊥
+    apart m n k lt le e = omega arith
 
 -- the variable of a binding isn't at the end of its target's bindings
 pub end_of-apart : (s : Equations) (v t : ℕ) → IsSound s → CanBind s v t → end_of s.bindings t ≡ v → ⊥

@@ -5,20 +5,20 @@ use Rattle.std.proofs.lemmas.List.Elements.{All-weaker, All-head, All-tail, All-
 use Rattle.std.proofs.lemmas.Option.{slice_get_within, get_or_from_slice_get}
 use Rattle.pm_logic.specs.Term.{Term, var, app, as_terms, tree_at}
 use Rattle.pm_logic.specs.Table.{Adds}
-use Rattle.pm_store.specs.declared.store.Entry.TheVariants.{Application}
+use Rattle.pm_store.specs.Entries.{Application}
 use Rattle.pm_store.specs.declared.resolver.Place.{Place}
 use Rattle.pm_store.specs.declared.resolver.Place.TheVariants.{Build}
 use Rattle.pm_store.specs.Equations.{Equations, end_of}
 use Rattle.pm_store.specs.Trees.{tree, fill, Occurs, OccursAmong}
 use Rattle.pm_store.specs.Resolved.{Resolved, row_of, numbered, HasRow, IsResolved}
-use Rattle.pm_store.specs.Pending.{WillHaveRow, IsReadyAt, Proceeds}
+use Rattle.pm_store.specs.Inside.Pending.{WillHaveRow, IsReadyAt, Proceeds}
 use Rattle.pm_store.proofs.TermLemmas.{fill_among-as_terms}
 use Rattle.pm_store.proofs.RowLemmas.{row_among-added}
 use Rattle.pm_store.proofs.PendingLemmas.{work-less}
 use Rattle.pm_store.proofs.ReadyLemmas.{comes-built}
 use Rattle.pm_store.proofs.ResolvedLemmas.{with_row, has_value, value_of, row_stays, IsResolved-row, IsResolved-term}
 
-abbrev HaveRows : Resolved → List ℕ → Type 0
+abbrev pub HaveRows : Resolved → List ℕ → Type 0
 HaveRows r cells = All (λ c. row_of r c ≢ None) cells
 
 -- the variables of cells with rows have numbers
@@ -63,7 +63,7 @@ grown_resolved s r table grown symbol args row is adds =
     ]
 
 -- the application has its row
-built_row : (s : Equations) (r : Resolved) (table grown : List Term) (c symbol : ℕ) (args rows : List ℕ) (row : ℕ) → IsResolved s r table
+pub built_row : (s : Equations) (r : Resolved) (table grown : List Term) (c symbol : ℕ) (args rows : List ℕ) (row : ℕ) → IsResolved s r table
     → HaveRows r args → map Some rows ≡ map (row_of r) args → tree s c ≡ app symbol (as_terms (map (tree s) args))
     → Adds table grown (app symbol (as_terms (map (tree_at table) rows))) row → HasRow s r.free grown c row
 built_row s r table grown c symbol args rows row is all same shown adds = record {

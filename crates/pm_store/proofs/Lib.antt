@@ -4,9 +4,14 @@ pub mod TreeLemmas
 pub mod BindingLemmas
 pub mod SolutionLemmas
 pub mod StoredLemmas
+pub mod SlotLemmas
+pub mod GrowthLemmas
+pub mod FlatLemmas
 pub mod LookLemmas
 pub mod MarkLemmas
 pub mod CycleLemmas
+pub mod FreeLemmas
+pub mod BoundLemmas
 pub mod NumberLemmas
 pub mod RowLemmas
 pub mod ResolvedLemmas
@@ -16,4 +21,5 @@ pub mod OpenLemmas
 pub mod VisitLemmas
 pub mod BuildLemmas
 pub mod ComesLemmas
+pub mod PartLemmas
 pub mod GivenLemmas

@@ -2,7 +2,7 @@
 use Rattle.std.proofs.Common.{◌≡◌, ℕ, zero, suc, ◌<◌, ◌⊎◌, inl, inr, ◌==◌, if◌then◌else◌, List, [], ◌∷◌, ◌++◌, length, map, Some, slice_get, true, false, not, true≢false, refl, sym, ◌∙◌, ap, ap₂}
 use Rattle.std.specs.Prelude.{All}
 use Rattle.std.proofs.lemmas.Bool.{eq-eqb, ne_eqb, cases_eq}
-use Rattle.std.proofs.lemmas.List.Elements.{All-head, All-tail}
+use Rattle.std.proofs.lemmas.List.Elements.{All-nil, All-cons, All-head, All-tail}
 
 pub if_same : {A : Type 0} (m n : ℕ) (x y : A) → m ≡ n → (if m == n then x else y) ≡ x
 if_same m n x y same = ap (λ b. if b then x else y) (eq-eqb m n same)
@@ -48,3 +48,15 @@ pub map_agree : {A : Type 0} (f g : ℕ → A) (n : ℕ) (ns : List ℕ) → ((m
 map_agree f g n [] agree below = refl
 map_agree f g n (m ∷ ms) agree below =
     ap₂ (λ x xs. x ∷ xs) (agree m (All-head (λ k. k < n) m ms below)) (map_agree f g n ms agree (All-tail (λ k. k < n) m ms below))
+
+module _ {A : Type 0} (holds : A → Type 0) where
+  pub All-left : (xs ys : List A) → All holds (xs ++ ys) → All holds xs
+  All-left [] ys all = All-nil holds
+  All-left (x ∷ xs) ys all = All-cons holds x xs (All-head holds x (xs ++ ys) all) (All-left xs ys (All-tail holds x (xs ++ ys) all))
+
+  pub All-right : (xs ys : List A) → All holds (xs ++ ys) → All holds ys
+  All-right [] ys all = all
+  All-right (x ∷ xs) ys all = All-right xs ys (All-tail holds x (xs ++ ys) all)
+
+  pub All-last : (xs : List A) (x : A) → All holds (xs ++ x ∷ []) → holds x
+  All-last xs x all = All-head holds x [] (All-right xs (x ∷ []) all)

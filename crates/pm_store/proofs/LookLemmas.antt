@@ -1,41 +1,64 @@
 -- What is read at the end of the bindings from a cell.
-use Rattle.std.proofs.Common.{◌≡◌, ℕ, ◌+◌, ◌<◌, List, length, map, get_or, Option, Some, None, slice_get, refl, sym, ◌∙◌, ap, subst, arith}
+use Rattle.std.proofs.Common.{◌≡◌, ℕ, ◌+◌, ◌-◌, ◌<◌, ◌≤◌, List, length, map, take, drop, get_or, Some, None, slice_get, refl, sym, ◌∙◌, ap, ap₂, subst, arith}
 use Rattle.std.specs.Prelude.{All}
-use Rattle.std.proofs.lemmas.List.{get_or_read}
+use Rattle.std.proofs.lemmas.List.{get_or-map}
 use Rattle.std.proofs.lemmas.List.Elements.{All-weaker}
-use Rattle.std.proofs.lemmas.Option.{slice_get_read, slice_get_within}
+use Rattle.std.proofs.lemmas.Option.{slice_get_read, slice_get_within, slice_get-map}
+use Rattle.std.specs.Option.{option_map}
 use Rattle.pm_logic.specs.Term.{Term, app, as_terms}
-use Rattle.pm_store.specs.declared.store.Entry.{Entry}
-use Rattle.pm_store.specs.declared.store.Entry.TheVariants.{Variable, Application}
-use Rattle.pm_store.specs.Equations.{Equations, target_of, end_of, IsFree}
+use Rattle.pm_store.specs.declared.slots.Slot.{Slot}
+use Rattle.pm_store.specs.declared.slots.Slot.TheVariants.{Unbound, Bound, Made}
+use Rattle.pm_store.specs.Entries.{Entry, Variable, Application}
+use Rattle.pm_store.specs.Equations.{Equations, target_of, end_of}
 use Rattle.pm_store.specs.Solutions.{Solves}
 use Rattle.pm_store.specs.Sound.{PointsBelow, IsSound}
-use Rattle.pm_store.specs.Stored.{target_at, equations_of, IsStored}
+use Rattle.pm_store.specs.Inside.Stored.{target_at}
+use Rattle.pm_store.specs.Inside.Slots.{entry_of, target_in, targets_of, start_in, count_in, flat_equations, IsFlat}
+use Rattle.pm_store.proofs.SlotLemmas.{laid_at}
+use Rattle.pm_store.proofs.FlatLemmas.{count_of}
 use Rattle.pm_store.proofs.TreeLemmas.{points_below}
-use Rattle.pm_store.proofs.BindingLemmas.{end_of-solved, end_of-unbound, end_of-target, target_within, steps, steps-target}
+use Rattle.pm_store.proofs.BindingLemmas.{end_of-solved, end_of-target, target_within, steps, steps-target}
 
--- what stands at a cell's place
-pub read_target : (s : Equations) (cells : List Entry) (targets : List (Option ℕ)) (trail : List ℕ) → equations_of cells targets trail ≡ s → IsStored cells targets trail
-    → (place at_cell : ℕ) → place ≡ at_cell → at_cell < length s.cells → (target : Option ℕ) → target ≡ get_or targets place target
-    → target_of s.bindings at_cell ≡ target
-read_target s cells targets trail view stored place at_cell same within target read =
-    let inside : place < length targets = omega (arith, same, stored.count, ap (λ (e : Equations). length e.cells) view) in
-    ap (λ (e : Equations). target_of e.bindings at_cell) (sym view) ∙ sym (stored.agree at_cell)
-    ∙ ap (target_at targets) (sym same) ∙ sym (get_or_read targets place target inside read None)
+module _ (slots : List Slot) (args trail : List ℕ) (s : Equations) (view : flat_equations slots args trail ≡ s) (flat : IsFlat slots args trail)
+    (place cell : ℕ) (same : place ≡ cell) (within : cell < length s.cells) where
+  pub place_within : place < length slots
+  place_within = omega (arith, same, count_of slots args trail s view)
 
-read_cell : (s : Equations) (cells : List Entry) (targets : List (Option ℕ)) (trail : List ℕ) → equations_of cells targets trail ≡ s
-    → (place at_cell : ℕ) → place ≡ at_cell → at_cell < length s.cells → (entry : Entry) → entry ≡ get_or cells place entry
-    → slice_get s.cells at_cell ≡ Some entry
-read_cell s cells targets trail view place at_cell same within entry read =
-    let inside : place < length cells = omega (arith, same, ap (λ (e : Equations). length e.cells) view) in
-    subst (λ (n : ℕ). slice_get s.cells n ≡ Some entry) same
-    (subst (λ (e : Equations). slice_get e.cells place ≡ Some entry) view (slice_get_read cells (length cells) place entry refl inside read))
+  -- what stands at a cell's place
+  module _ (slot : Slot) (read : slot ≡ get_or slots place slot) where
+    slot_there : slice_get slots place ≡ Some slot
+    slot_there = slice_get_read slots (length slots) place slot refl place_within read
 
-pub place_within : (s : Equations) (cells : List Entry) (targets : List (Option ℕ)) (trail : List ℕ) → equations_of cells targets trail ≡ s → IsStored cells targets trail
-    → (place at_cell : ℕ) → place ≡ at_cell → at_cell < length s.cells → (place < length cells) × (place < length targets)
-place_within s cells targets trail view stored place at_cell same within =
-    let inside : place < length cells = omega (arith, same, ap (λ (e : Equations). length e.cells) view) in
-    (inside, subst (λ (n : ℕ). place < n) (sym stored.count) inside)
+    pub read_target : target_of s.bindings cell ≡ target_in slot
+    read_target =
+        ap (λ (e : Equations). target_of e.bindings cell) (sym view) ∙ sym (flat.stored.agree cell) ∙ ap (target_at (targets_of slots)) (sym same)
+        ∙ get_or-map target_in slots place slot None place_within ∙ ap target_in (sym read)
+
+    pub read_cell : slice_get s.cells cell ≡ Some (entry_of args slot)
+    read_cell =
+        subst (λ (n : ℕ). slice_get s.cells n ≡ Some (entry_of args slot)) same
+        (subst (λ (e : Equations). slice_get e.cells place ≡ Some (entry_of args slot)) view
+        (slice_get-map (entry_of args) slots place ∙ ap (option_map (entry_of args)) slot_there))
+
+    pub arguments_within : start_in slot + count_in slot ≤ length args
+    arguments_within = laid_at 0 slots (length args) place slot flat.laid slot_there
+
+-- a slot that is no application's is a variable's, and one that isn't bound has no target
+pub variable_in : (args : List ℕ) (slot : Slot) → ((start symbol count : ℕ) → slot ≡ Made start symbol count → ⊥) → entry_of args slot ≡ Variable
+variable_in args (Unbound start) other = refl
+variable_in args (Bound start target) other = refl
+variable_in args (Made start symbol count) other = absurd (other start symbol count refl)
+
+pub no_target_in : (slot : Slot) → ((start target : ℕ) → slot ≡ Bound start target → ⊥) → target_in slot ≡ None
+no_target_in (Unbound start) other = refl
+no_target_in (Bound start target) other = absurd (other start target refl)
+no_target_in (Made start symbol count) other = refl
+
+-- the arguments from one number to another
+pub part_is : (start count : ℕ) (all args : List ℕ) → all ≡ args → take (start + count - start) (drop start all) ≡ take count (drop start args)
+part_is start count all args same =
+    let counted : start + count - start ≡ count = omega arith in
+    ap₂ (λ n xs. take n (drop start xs)) counted same
 
 -- a bound variable's target
 pub target_follows : (s : Equations) (a v t : ℕ) → IsSound s → end_of s.bindings v ≡ end_of s.bindings a → target_of s.bindings v ≡ Some t
@@ -52,23 +75,8 @@ pub record Ends (s : Equations) (a c : ℕ) (entry : Entry) : Type 0 where
   pub unbound : target_of s.bindings c ≡ None
   pub stands : slice_get s.cells c ≡ Some entry
 
-pub ends : (s : Equations) (cells : List Entry) (targets : List (Option ℕ)) (trail : List ℕ) (a place c : ℕ) (target : Option ℕ) (entry entry' : Entry)
-    → equations_of cells targets trail ≡ s → IsStored cells targets trail → place ≡ c → c < length s.cells → end_of s.bindings c ≡ end_of s.bindings a
-    → target ≡ get_or targets place target → target ≡ None → entry ≡ get_or cells place entry → entry ≡ entry'
-    → Ends s a c entry'
-ends s cells targets trail a place c target entry entry' view stored same within same_end read none read' is =
-    let unbound : target_of s.bindings c ≡ None = read_target s cells targets trail view stored place c same within target read ∙ none in
-    record {
-      end = sym (end_of-unbound s.bindings c unbound) ∙ same_end;
-      unbound = unbound;
-      stands = read_cell s cells targets trail view place c same within entry read' ∙ ap Some is;
-    }
-
 pub end_solved : (s : Equations) (a c : ℕ) (entry : Entry) → Ends s a c entry → (trees : ℕ → Term) → Solves s trees → trees a ≡ trees c
 end_solved s a c entry found trees solves = end_of-solved s.bindings trees solves.bindings a ∙ ap trees (sym found.end)
-
-pub free_shown : (s : Equations) (a c : ℕ) → Ends s a c Variable → (c ≡ end_of s.bindings a) × IsFree s c
-free_shown s a c found = (found.end, record { variable = found.stands; unbound = found.unbound })
 
 pub application_solved : (s : Equations) (a c symbol : ℕ) (args shown : List ℕ) → Ends s a c (Application symbol args) → shown ≡ args
     → (trees : ℕ → Term) → Solves s trees → trees a ≡ app symbol (as_terms (map trees shown))

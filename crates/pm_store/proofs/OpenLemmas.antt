@@ -4,13 +4,13 @@ use Rattle.std.specs.Prelude.{All, Contains}
 use Rattle.std.proofs.lemmas.List.{append_assoc}
 use Rattle.std.proofs.lemmas.List.Elements.{All-weaker, All-cons, All-nil, All-head, All-tail, Contains-append_left, Contains-append_right, Contains-push, Contains-push_cases}
 use Rattle.pm_logic.specs.Term.{Term, app, as_terms}
-use Rattle.pm_store.specs.declared.store.Entry.TheVariants.{Application}
+use Rattle.pm_store.specs.Entries.{Application}
 use Rattle.pm_store.specs.declared.resolver.Place.{Place}
 use Rattle.pm_store.specs.declared.resolver.Place.TheVariants.{Visit, Build}
 use Rattle.pm_store.specs.Equations.{Equations, end_of}
 use Rattle.pm_store.specs.Trees.{tree}
 use Rattle.pm_store.specs.Resolved.{Resolved, with_variables}
-use Rattle.pm_store.specs.Pending.{visits, variables_after, cell_of, WillHaveRow, IsReadyAt, AreReady, Comes}
+use Rattle.pm_store.specs.Inside.Pending.{visits, variables_after, cell_of, WillHaveRow, IsReadyAt, AreReady, Comes}
 use Rattle.pm_store.proofs.PendingLemmas.{variables_after-append, variables_after-visits}
 
 will-replace : (r : Resolved) (ps qs : List Place) (p q : Place) → Contains qs q → cell_of q ≡ cell_of p → (d : ℕ) → WillHaveRow r (ps ++ p ∷ []) d → WillHaveRow r (ps ++ qs) d

@@ -6,7 +6,7 @@ use Rattle.pm_store.specs.declared.resolver.Place.TheVariants.{Visit, Build}
 use Rattle.pm_store.specs.Equations.{Equations}
 use Rattle.pm_store.specs.Trees.{tree, size, size_among}
 use Rattle.pm_store.specs.Resolved.{with_variables, with_variables_among}
-use Rattle.pm_store.specs.Pending.{place_work, work, visits, variables_after}
+use Rattle.pm_store.specs.Inside.Pending.{place_work, work, visits, variables_after}
 use Rattle.pm_store.proofs.TermLemmas.{size-positive}
 
 -- the places that come last are visited first

@@ -8,7 +8,7 @@ use Rattle.pm_store.specs.declared.resolver.Place.TheVariants.{Visit, Build}
 use Rattle.pm_store.specs.Equations.{Equations}
 use Rattle.pm_store.specs.Trees.{tree}
 use Rattle.pm_store.specs.Resolved.{Resolved, row_of, with_variables, IsResolved}
-use Rattle.pm_store.specs.Pending.{variables_after, cell_of, WillHaveRow, IsReadyAt, AreReady, Comes}
+use Rattle.pm_store.specs.Inside.Pending.{variables_after, cell_of, WillHaveRow, IsReadyAt, AreReady, Comes}
 use Rattle.pm_store.proofs.NumberLemmas.{with_variables-known}
 use Rattle.pm_store.proofs.PendingLemmas.{variables_after-append}
 use Rattle.pm_store.proofs.ResolvedLemmas.{value_of}

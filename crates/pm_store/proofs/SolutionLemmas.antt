@@ -1,18 +1,17 @@
 -- How solutions and soundness change with a cell or a binding.
-use Rattle.std.proofs.Common.{◌≡◌, ℕ, suc, ◌+◌, ◌<◌, ◌≤◌, inl, inr, List, [], ◌∷◌, ◌++◌, length, map, Result, Ok, Err, OnOk, IfOk, refl, sym, ◌∙◌, ap, subst, arith}
+use Rattle.std.proofs.Common.{◌≡◌, ℕ, suc, ◌+◌, ◌<◌, ◌≤◌, inl, inr, List, [], ◌∷◌, ◌++◌, length, map, Some, slice_get, refl, sym, ◌∙◌, ap, subst, arith}
 use Rattle.std.specs.Prelude.{◌↔◌, All}
 use Rattle.std.proofs.lemmas.List.{length_push, length-append}
-use Rattle.std.proofs.lemmas.List.Elements.{All-nil, All-head, All-tail, All-cons, All-weaker}
+use Rattle.std.proofs.lemmas.List.Elements.{All-nil, All-head, All-tail, All-cons}
 use Rattle.std.proofs.lemmas.Option.{slice_get_within}
 use Rattle.pm_logic.specs.Term.{Term, app, as_terms, tree_at}
-use Rattle.pm_store.specs.declared.store.Entry.{Entry}
-use Rattle.pm_store.specs.declared.store.Entry.TheVariants.{Variable, Application}
+use Rattle.pm_store.specs.Entries.{Entry, Variable, Application}
 use Rattle.pm_store.specs.Equations.{Binding, Equations, with_cell, with_binding}
 use Rattle.pm_store.specs.Solutions.{Solves, with_tree}
 use Rattle.pm_store.specs.Trees.{trees_from, tree_of, put_at, tree_under, Occurs}
 use Rattle.pm_store.specs.Sound.{PointsBelow, PointDown, CanBind, AreMade, IsSound}
-use Rattle.pm_store.specs.Laws.{OtherCellsAreOpen}
-use Rattle.pm_store.proofs.ListLemmas.{if_other, map_agree, slice_get-append, slice_get-last, slice_get-push}
+use Rattle.pm_store.specs.Laws.{OtherCellsAreOpen, LaterSolutions}
+use Rattle.pm_store.proofs.ListLemmas.{if_other, map_agree, All-right, slice_get-append, slice_get-last, slice_get-push}
 use Rattle.pm_store.proofs.TreeLemmas.{trees_from-kept, points_below}
 
 -- what one more cell asks of trees
@@ -69,7 +68,7 @@ length-trees_from before (e ∷ es) =
     let new : Term = tree_of (tree_at before) (length before) e in
     omega (arith, length-trees_from (before ++ new ∷ []) es, length_push before new)
 
-tree_under-append : (cells more : List Entry) (bs : List Binding) → AreMade cells bs → (c : ℕ) → c < length cells → tree_under (cells ++ more) bs c ≡ tree_under cells bs c
+pub tree_under-append : (cells more : List Entry) (bs : List Binding) → AreMade cells bs → (c : ℕ) → c < length cells → tree_under (cells ++ more) bs c ≡ tree_under cells bs c
 tree_under-append cells more [] made c within =
     ap (λ ts. tree_at ts c) (trees_from-append [] cells more)
     ∙ trees_from-kept (trees_from [] cells) more c (omega (arith, length-trees_from [] cells))
@@ -114,72 +113,47 @@ IsSound-with_cell s e sound below =
 pub IsSound-with_binding : (s : Equations) (v t : ℕ) → IsSound s → CanBind s v t → IsSound (with_binding s v t)
 IsSound-with_binding s v t sound can = record { down = sound.down; made = (can, sound.made) }
 
--- a new variable may have any tree
-pub fresh_solutions : {A E : Type 0} (r : Result A E) (old new : Equations) → OnOk r (new ≡ with_cell old Variable)
-    → OnOk r ((trees : ℕ → Term) → Solves new trees ↔ Solves old trees)
-fresh_solutions (Ok x) old new is = λ trees.
-    let parts = Solves-with_cell old Variable trees in
-    subst (λ (s : Equations). Solves s trees ↔ Solves old trees) (sym is) (λ solves. (parts.0 solves).0, λ solves. parts.1 (solves, tt))
-fresh_solutions (Err x) old new is = tt
+-- trees that agree on the cells of a store have equal trees for its bindings alike
+bindings_agree : (cells : List Entry) (bs : List Binding) (f g : ℕ → Term) → AreMade cells bs → ((c : ℕ) → c < length cells → f c ≡ g c)
+    → All (λ b. f b.variable ≡ f b.target) bs → All (λ b. g b.variable ≡ g b.target) bs
+bindings_agree cells [] f g made agree same = All-nil (λ (b : Binding). g b.variable ≡ g b.target)
+bindings_agree cells (b ∷ bs) f g made agree same =
+    let equal : Binding → Type 0 = λ b'. f b'.variable ≡ f b'.target in
+    let equal' : Binding → Type 0 = λ b'. g b'.variable ≡ g b'.target in
+    let first : g b.variable ≡ g b.target =
+    sym (agree b.variable (slice_get_within cells b.variable Variable made.0.free.variable)) ∙ All-head equal b bs same ∙ agree b.target made.0.within in
+    All-cons equal' b bs first (bindings_agree cells bs f g made.1 agree (All-tail equal b bs same))
 
--- trees that differ at one cell alone agree on a list of cells below it
-args_agree : (trees : ℕ → Term) (c : ℕ) (t : Term) (args : List ℕ) → All (λ arg. arg < c) args → map (with_tree trees c t) args ≡ map trees args
-args_agree trees c t args below = map_agree (with_tree trees c t) trees c args (λ a lt. if_other a c t (trees a) (apart a c lt)) below
-  where
-    apart : (m n : ℕ) → m < n → m ≡ n → ⊥
-    apart m n lt e = omega arith
-
-bindings_agree : (cells : List Entry) (bs : List Binding) (trees : ℕ → Term) (c : ℕ) (t : Term) → AreMade cells bs → length cells ≤ c
-    → All (λ b. trees b.variable ≡ trees b.target) bs → All (λ b. with_tree trees c t b.variable ≡ with_tree trees c t b.target) bs
-bindings_agree cells [] trees c t made beyond same = All-nil (λ (b : Binding). with_tree trees c t b.variable ≡ with_tree trees c t b.target)
-bindings_agree cells (b ∷ bs) trees c t made beyond same =
-    let equal : Binding → Type 0 = λ b'. trees b'.variable ≡ trees b'.target in
-    let equal' : Binding → Type 0 = λ b'. with_tree trees c t b'.variable ≡ with_tree trees c t b'.target in
-    let first : with_tree trees c t b.variable ≡ with_tree trees c t b.target =
-    if_other b.variable c t (trees b.variable) (apart b.variable c (length cells) (slice_get_within cells b.variable Variable made.0.free.variable) beyond)
-    ∙ All-head equal b bs same
-    ∙ sym (if_other b.target c t (trees b.target) (apart b.target c (length cells) made.0.within beyond)) in
-    All-cons equal' b bs first (bindings_agree cells bs trees c t made.1 beyond (All-tail equal b bs same))
-  where
-    apart : (m n k : ℕ) → m < k → k ≤ n → m ≡ n → ⊥
-    apart m n k lt le e = omega arith
-
-pub other_cells_are_open : OtherCellsAreOpen
-other_cells_are_open s solution c t sound beyond solves = record {
+-- and solve it alike
+pub solves_agree : (s : Equations) (f g : ℕ → Term) → IsSound s → ((c : ℕ) → c < length s.cells → f c ≡ g c) → Solves s f → Solves s g
+solves_agree s f g sound agree solves = record {
   applications = λ cell symbol args is.
       let start : 0 + cell ≡ cell = omega arith in
       let within : cell < length s.cells = slice_get_within s.cells cell (Application symbol args) is in
       let below : All (λ arg. arg < cell) args =
       subst (λ (n : ℕ). PointsBelow n (Application symbol args)) start (points_below 0 s.cells sound.down cell (Application symbol args) is) in
-      let farther : All (λ arg. arg < c) args = All-weaker (λ arg. arg < cell) (λ arg. arg < c) (λ arg lt. nearer arg cell c (length s.cells) lt within beyond) args below in
-      if_other cell c t (solution cell) (apart cell c (length s.cells) within beyond)
-      ∙ solves.applications cell symbol args is
-      ∙ ap (λ ts. app symbol (as_terms ts)) (sym (args_agree solution c t args farther));
-  bindings = bindings_agree s.cells s.bindings solution c t sound.made beyond solves.bindings;
+      sym (agree cell within) ∙ solves.applications cell symbol args is
+      ∙ ap (λ ts. app symbol (as_terms ts)) (map_agree f g cell args (λ a lt. agree a (nearer a cell (length s.cells) lt within)) below);
+  bindings = bindings_agree s.cells s.bindings f g sound.made agree solves.bindings;
 }
+  where
+    nearer : (m n k : ℕ) → m < n → n < k → m < k
+    nearer m n k lt lt' = omega arith
+
+pub other_cells_are_open : OtherCellsAreOpen
+other_cells_are_open s solution c t sound beyond solves =
+    solves_agree s solution (with_tree solution c t) sound (λ a lt. sym (if_other a c t (solution a) (apart a c (length s.cells) lt beyond))) solves
   where
     apart : (m n k : ℕ) → m < k → k ≤ n → m ≡ n → ⊥
     apart m n k lt le e = omega arith
 
-    nearer : (m n k l : ℕ) → m < n → n < l → l ≤ k → m < k
-    nearer m n k l lt lt' le = omega arith
-
-pub fresh_any : {E : Type 0} (r : Result ℕ E) (old new : Equations) → IsSound old → OnOk r (new ≡ with_cell old Variable) → IfOk r (λ v. v ≡ length old.cells)
-    → IfOk r (λ v. (trees : ℕ → Term) (t : Term) → Solves old trees → Solves new (with_tree trees v t))
-fresh_any (Ok v) old new sound is place = λ trees t solves.
-    subst (λ (s : Equations). Solves s (with_tree trees v t)) (sym is)
-    ((Solves-with_cell old Variable (with_tree trees v t)).1 (other_cells_are_open old trees v t sound (at_least v (length old.cells) place) solves, tt))
+pub later_solutions : LaterSolutions
+later_solutions before after trees later solves = record {
+  applications = λ cell symbol args is. solves.applications cell symbol args
+      (subst (λ (es : List Entry). slice_get es cell ≡ Some (Application symbol args)) (sym later.cells.1)
+      (slice_get-append before.cells later.cells.0 cell (Application symbol args) is));
+  bindings = All-right equal later.bindings.0 before.bindings (subst (λ (bs : List Binding). All equal bs) later.bindings.1 solves.bindings);
+}
   where
-    at_least : (m n : ℕ) → m ≡ n → n ≤ m
-    at_least m n e = omega arith
-fresh_any (Err x) old new sound is place = tt
-
--- a new application has the tree of its symbol and arguments
-pub make_solutions : {E : Type 0} (r : Result ℕ E) (old new : Equations) (symbol : ℕ) (args : List ℕ) → OnOk r (new ≡ with_cell old (Application symbol args))
-    → IfOk r (λ cell. cell ≡ length old.cells)
-    → IfOk r (λ cell. (trees : ℕ → Term) → Solves new trees ↔ (Solves old trees × (trees cell ≡ app symbol (as_terms (map trees args)))))
-make_solutions (Ok cell) old new symbol args is place = λ trees.
-    subst (λ (s : Equations). Solves s trees ↔ (Solves old trees × (trees cell ≡ app symbol (as_terms (map trees args))))) (sym is)
-    (subst (λ (n : ℕ). Solves (with_cell old (Application symbol args)) trees ↔ (Solves old trees × (trees n ≡ app symbol (as_terms (map trees args))))) (sym place)
-    (Solves-with_cell old (Application symbol args) trees))
-make_solutions (Err x) old new symbol args is place = tt
+    equal : Binding → Type 0
+    equal b = trees b.variable ≡ trees b.target

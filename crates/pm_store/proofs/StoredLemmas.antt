@@ -1,16 +1,15 @@
 -- How what is kept of bindings changes.
-use Rattle.std.proofs.Common.{◌≡◌, ℕ, zero, suc, ◌+◌, ◌<◌, ◌≤◌, inl, inr, if◌then◌else◌, is_none, List, [], ◌∷◌, ◌++◌, length, map, reverse, take, set, Option, Result, Ok, Err, Some, None, OnOk, OnErr, IfOk, unwrap_or, slice_get, refl, sym, ◌∙◌, ap, ap₂, subst, arith}
-use Rattle.std.specs.Prelude.{All}
+use Rattle.std.proofs.Common.{◌≡◌, ℕ, zero, suc, ◌+◌, ◌<◌, ◌≤◌, inl, inr, if◌then◌else◌, is_none, List, [], ◌∷◌, ◌++◌, length, map, reverse, take, set, Option, Some, None, unwrap_or, slice_get, refl, sym, ◌∙◌, ap, ap₂, subst, arith}
 use Rattle.std.proofs.lemmas.Bool.{cases_eq, cases_lt}
 use Rattle.std.proofs.lemmas.List.{length_push, length-append, length-set, length-take, length-map, length-reverse, reverse-append, get_or-set_same, get_or-set_other, get_or-take, get_or_past, take_at, append_assoc}
 use Rattle.std.proofs.lemmas.Option.{slice_get_within}
-use Rattle.pm_store.specs.declared.store.Entry.{Entry}
-use Rattle.pm_store.specs.declared.store.Entry.TheVariants.{Variable, Application}
+use Rattle.pm_store.specs.Entries.{Entry, Variable, Application}
 use Rattle.pm_store.specs.Equations.{Binding, Equations, with_cell, with_binding, target_of, IsFree, free_at, free_among, free_count}
-use Rattle.pm_store.specs.Sound.{PointsBelow, CanBind, AreMade, IsSound}
+use Rattle.pm_store.specs.Sound.{PointsBelow, CanBind, IsSound}
 use Rattle.pm_store.specs.Marks.{IsLater}
-use Rattle.pm_store.specs.Stored.{target_at, binding_at, bindings_of, equations_of, IsStored}
+use Rattle.pm_store.specs.Inside.Stored.{target_at, binding_at, bindings_of, equations_of, IsStored}
 use Rattle.pm_store.proofs.ListLemmas.{if_same, if_other}
+use Rattle.pm_store.proofs.BindingLemmas.{unbound_beyond}
 use Rattle.pm_store.proofs.SolutionLemmas.{IsSound-with_cell, IsSound-with_binding}
 
 pub sound_of : (s : Equations) (cells : List Entry) (targets : List (Option ℕ)) (trail : List ℕ) → equations_of cells targets trail ≡ s → IsStored cells targets trail
@@ -42,7 +41,7 @@ stored_same cells cells' targets targets' trail stored count same sound =
       sound = subst (λ (bs : List Binding). let s : Equations = record { cells = cells'; bindings = bs } in IsSound s) (sym bindings) sound;
     }
 
-equations-push : (cells cells' : List Entry) (targets targets' : List (Option ℕ)) (trail : List ℕ) (e : Entry)
+pub equations-push : (cells cells' : List Entry) (targets targets' : List (Option ℕ)) (trail : List ℕ) (e : Entry)
     → cells' ≡ cells ++ e ∷ [] → targets' ≡ targets ++ None ∷ []
     → equations_of cells' targets' trail ≡ with_cell (equations_of cells targets trail) e
 equations-push cells cells' targets targets' trail e cells_are targets_are =
@@ -50,7 +49,7 @@ equations-push cells cells' targets targets' trail e cells_are targets_are =
     bindings_same targets targets' (reverse trail) (λ v. ap (λ ts. target_at ts v) targets_are ∙ target_at-push targets v) in
     ap₂ (λ cs bs. let s : Equations = record { cells = cs; bindings = bs } in s) cells_are same
 
-IsStored-push : (cells cells' : List Entry) (targets targets' : List (Option ℕ)) (trail : List ℕ) (e : Entry)
+pub IsStored-push : (cells cells' : List Entry) (targets targets' : List (Option ℕ)) (trail : List ℕ) (e : Entry)
     → IsStored cells targets trail → PointsBelow (length cells) e → cells' ≡ cells ++ e ∷ [] → targets' ≡ targets ++ None ∷ []
     → IsStored cells' targets' trail
 IsStored-push cells cells' targets targets' trail e stored below cells_are targets_are =
@@ -58,38 +57,6 @@ IsStored-push cells cells' targets targets' trail e stored below cells_are targe
     (omega (arith, ap length cells_are, ap length targets_are, length_push cells e, length_push targets None, stored.count))
     (λ v. ap (λ ts. target_at ts v) targets_are ∙ target_at-push targets v)
     (subst (λ (cs : List Entry). IsSound (equations_of cs targets trail)) (sym cells_are) (IsSound-with_cell (equations_of cells targets trail) e stored.sound below))
-
--- so after a cell was added, or not
-pub IsStored-added : {A E : Type 0} (r : Result A E) (cells cells' : List Entry) (targets targets' : List (Option ℕ)) (trail : List ℕ) (e : Entry)
-    → IsStored cells targets trail → PointsBelow (length cells) e
-    → OnOk r ((cells' ≡ cells ++ e ∷ []) × (targets' ≡ targets ++ None ∷ []))
-    → OnErr r ((cells' ≡ cells) × (targets' ≡ targets))
-    → IsStored cells' targets' trail
-IsStored-added (Ok x) cells cells' targets targets' trail e stored below ok err =
-    IsStored-push cells cells' targets targets' trail e stored below ok.0 ok.1
-IsStored-added (Err x) cells cells' targets targets' trail e stored below ok err =
-    subst (λ (cs : List Entry). IsStored cs targets' trail) (sym err.0) (subst (λ (ts : List (Option ℕ)). IsStored cells ts trail) (sym err.1) stored)
-
-pub grown : {A E : Type 0} (r : Result A E) (cells cells' : List Entry) (targets targets' : List (Option ℕ)) (trail : List ℕ) (e : Entry) (old : Equations)
-    → equations_of cells targets trail ≡ old
-    → OnOk r ((cells' ≡ cells ++ e ∷ []) × (targets' ≡ targets ++ None ∷ []))
-    → OnOk r (equations_of cells' targets' trail ≡ with_cell old e)
-grown (Ok x) cells cells' targets targets' trail e old view ok = equations-push cells cells' targets targets' trail e ok.0 ok.1 ∙ ap (λ s. with_cell s e) view
-grown (Err x) cells cells' targets targets' trail e old view ok = tt
-
--- the arguments are cells of the store
-pub args_below : (s : Equations) (cells : List Entry) (targets : List (Option ℕ)) (trail : List ℕ) (args args' : List ℕ) → equations_of cells targets trail ≡ s
-    → All (λ arg. arg < length s.cells) args' → args ≡ args' → All (λ arg. arg < length cells) args
-args_below s cells targets trail args args' view below same =
-    subst (λ (xs : List ℕ). All (λ arg. arg < length cells) xs) (sym same)
-    (subst (λ (e : Equations). All (λ arg. arg < length e.cells) args') (sym view) below)
-
-pub grown_same : {A E : Type 0} (r : Result A E) (old new : Equations) (symbol : ℕ) (args args' : List ℕ) → args ≡ args'
-    → OnOk r (new ≡ with_cell old (Application symbol args)) → OnOk r (new ≡ with_cell old (Application symbol args'))
-grown_same r old new symbol args args' same ok = subst (λ (xs : List ℕ). OnOk r (new ≡ with_cell old (Application symbol xs))) same ok
-
-pub place_same : {E : Type 0} (r : Result ℕ E) (s t : Equations) → s ≡ t → IfOk r (λ cell. cell ≡ length s.cells) → IfOk r (λ cell. cell ≡ length t.cells)
-place_same r s t same place = subst (λ (e : Equations). IfOk r (λ cell. cell ≡ length e.cells)) same place
 
 -- a target that changes at a variable that isn't bound changes no binding
 bindings_elsewhere : (targets : List (Option ℕ)) (v : ℕ) (t : Option ℕ) (vs : List ℕ) → target_of (map (binding_at targets) vs) v ≡ None
@@ -154,7 +121,7 @@ bound cells targets trail trail' v w t old stored view can same longer =
 
 -- the last bound variable can be freed: the bindings before it stay
 record IsUnbound (cells : List Entry) (targets : List (Option ℕ)) (trail : List ℕ) (v : ℕ) : Type 0 where
-  pub within : v < length targets
+  pub variable : slice_get cells v ≡ Some Variable
   pub stored : IsStored cells (set targets v None) trail
   pub bindings : bindings_of targets (trail ++ v ∷ []) ≡ binding_at targets v ∷ bindings_of (set targets v None) trail
 
@@ -169,7 +136,7 @@ unbound cells targets trail v stored =
     let within : v < length targets = omega (arith, slice_get_within cells v Variable sound.made.0.free.variable, stored.count) in
     let stays : bindings_of (set targets v None) trail ≡ before = bindings_elsewhere targets v None (reverse trail) free in
     record {
-      within = within;
+      variable = sound.made.0.free.variable;
       stored = record {
         count = length-set targets v None ∙ stored.count;
         agree = λ w. elim (cases_eq v w) [
@@ -197,22 +164,11 @@ unbound_more cells targets trail trail' v w start stored longer same so_far =
     subst (λ (n : ℕ). IsStored cells (set targets n None) trail × ((undone : List Binding) × (start ≡ undone ++ bindings_of (set targets n None) trail))) (sym same)
     (freed.stored, (so_far.0 ++ first ∷ [], rest))
 
-pub unbound_within : (cells : List Entry) (targets : List (Option ℕ)) (trail trail' : List ℕ) (v w : ℕ) → IsStored cells targets trail'
-    → trail' ≡ trail ++ v ∷ [] → w ≡ v → w < length targets
-unbound_within cells targets trail trail' v w stored longer same =
+pub unbound_variable : (cells : List Entry) (targets : List (Option ℕ)) (trail trail' : List ℕ) (v w : ℕ) → IsStored cells targets trail'
+    → trail' ≡ trail ++ v ∷ [] → w ≡ v → slice_get cells w ≡ Some Variable
+unbound_variable cells targets trail trail' v w stored longer same =
     let freed : IsUnbound cells targets trail v = unbound cells targets trail v (subst (λ (tr : List ℕ). IsStored cells targets tr) longer stored) in
-    subst (λ (n : ℕ). n < length targets) (sym same) freed.within
-
--- a cell beyond the cells isn't bound
-pub unbound_beyond : (cells : List Entry) (bs : List Binding) (v : ℕ) → AreMade cells bs → length cells ≤ v → target_of bs v ≡ None
-unbound_beyond cells [] v made beyond = refl
-unbound_beyond cells (b ∷ bs) v made beyond =
-    if_other b.variable v (Some b.target) (target_of bs v)
-    (apart b.variable v (length cells) (slice_get_within cells b.variable Variable made.0.free.variable) beyond)
-    ∙ unbound_beyond cells bs v made.1 beyond
-  where
-    apart : (m n k : ℕ) → m < k → k ≤ n → m ≡ n → ⊥
-    apart m n k lt le e = omega arith
+    subst (λ (n : ℕ). slice_get cells n ≡ Some Variable) (sym same) freed.variable
 
 same_suffix : {A : Type 0} (xs ys us vs : List A) → xs ++ us ≡ ys ++ vs → length us ≡ length vs → us ≡ vs
 same_suffix [] [] us vs same len = same
@@ -266,14 +222,14 @@ target_at-take before entries targets trail sound stored is_back v =
           ∙ sym (stored.agree v ∙ ap (λ bs. target_of bs v) is_back.bindings ∙ unbound_beyond before.cells before.bindings v sound.made beyond)
     ]
 
-equations-undone : (before other : Equations) (entries : List Entry) (targets : List (Option ℕ)) (trail : List ℕ) (n : ℕ) → n ≡ length before.cells → n ≡ length other.cells
-    → IsSound before → IsStored entries targets trail → IsBack before entries targets trail → IsBack other entries targets trail
-    → equations_of (take n entries) (take n targets) trail ≡ other
-equations-undone before other entries targets trail n is same sound stored is_back other_back =
+equations-undone : (before : Equations) (entries : List Entry) (targets : List (Option ℕ)) (trail : List ℕ) (n : ℕ) → n ≡ length before.cells
+    → IsSound before → IsStored entries targets trail → IsBack before entries targets trail
+    → equations_of (take n entries) (take n targets) trail ≡ before
+equations-undone before entries targets trail n is sound stored is_back =
     let bindings : bindings_of (take n targets) trail ≡ bindings_of targets trail =
     bindings_same targets (take n targets) (reverse trail)
     (λ v. ap (λ k. target_at (take k targets) v) is ∙ target_at-take before entries targets trail sound stored is_back v) in
-    ap₂ (λ cs bs. let s : Equations = record { cells = cs; bindings = bs } in s) (ap (λ k. take k entries) same ∙ other_back.cells) (bindings ∙ other_back.bindings)
+    ap₂ (λ cs bs. let s : Equations = record { cells = cs; bindings = bs } in s) (ap (λ k. take k entries) is ∙ is_back.cells) (bindings ∙ is_back.bindings)
 
 IsStored-undone : (before : Equations) (entries : List Entry) (targets : List (Option ℕ)) (trail : List ℕ) (n : ℕ) → n ≡ length before.cells
     → IsSound before → IsStored entries targets trail → IsBack before entries targets trail
@@ -299,12 +255,11 @@ IsStored-truncated before entries entries' targets targets' trail n is sound sto
     subst (λ (es : List Entry). IsStored es targets' trail) (sym cut)
     (subst (λ (ts : List (Option ℕ)). IsStored (take n entries) ts trail) (sym cut') (IsStored-undone before entries targets trail n is sound stored is_back))
 
-pub equations-truncated : (before other : Equations) (entries entries' : List Entry) (targets targets' : List (Option ℕ)) (trail : List ℕ) (n : ℕ)
-    → n ≡ length before.cells → n ≡ length other.cells
-    → IsSound before → IsStored entries targets trail → IsBack before entries targets trail → IsBack other entries targets trail
-    → entries' ≡ take n entries → targets' ≡ take n targets → equations_of entries' targets' trail ≡ other
-equations-truncated before other entries entries' targets targets' trail n is same sound stored is_back other_back cut cut' =
-    ap₂ (λ es ts. equations_of es ts trail) cut cut' ∙ equations-undone before other entries targets trail n is same sound stored is_back other_back
+pub equations-truncated : (before : Equations) (entries entries' : List Entry) (targets targets' : List (Option ℕ)) (trail : List ℕ) (n : ℕ)
+    → n ≡ length before.cells → IsSound before → IsStored entries targets trail → IsBack before entries targets trail
+    → entries' ≡ take n entries → targets' ≡ take n targets → equations_of entries' targets' trail ≡ before
+equations-truncated before entries entries' targets targets' trail n is sound stored is_back cut cut' =
+    ap₂ (λ es ts. equations_of es ts trail) cut cut' ∙ equations-undone before entries targets trail n is sound stored is_back
 
 -- how many variables are free after one was bound
 free_at-other : (b : Binding) (bs : List Binding) (row : ℕ) (e : Entry) → (b.variable ≡ row → ⊥) → free_at (b ∷ bs) row e ≡ free_at bs row e

@@ -6,12 +6,11 @@ use Rattle.std.proofs.lemmas.List.{length_push, get_or_append_left, get_or_push}
 use Rattle.std.proofs.lemmas.List.Elements.{All-head, All-tail, All-cons, All-weaker, All-nil}
 use Rattle.std.proofs.lemmas.Option.{slice_get-get_or}
 use Rattle.pm_logic.specs.Term.{Term, var, app, as_terms, tree_at}
-use Rattle.pm_store.specs.declared.store.Entry.{Entry}
-use Rattle.pm_store.specs.declared.store.Entry.TheVariants.{Variable, Application}
-use Rattle.pm_store.specs.Equations.{Binding, Equations, target_of, IsFree}
+use Rattle.pm_store.specs.Entries.{Entry, Variable, Application}
+use Rattle.pm_store.specs.Equations.{Binding, target_of}
 use Rattle.pm_store.specs.Trees.{tree_of, trees_from, put_at, tree_under, tree, fill}
-use Rattle.pm_store.specs.Sound.{PointsBelow, PointDown, AreMade, IsSound}
-use Rattle.pm_store.specs.Laws.{TreesSolve, TreesAreGeneral}
+use Rattle.pm_store.specs.Sound.{PointsBelow, PointDown, AreMade}
+use Rattle.pm_store.specs.Laws.{TreesSolve, TreesAreGeneral, FreeVariablesStand}
 use Rattle.pm_store.proofs.ListLemmas.{if_same, if_other, map_agree}
 use Rattle.pm_store.proofs.TermLemmas.{put_at-absent, put_at-var, fill-put_at, put_at_among-as_terms, fill_among-as_terms}
 
@@ -56,7 +55,7 @@ tree-entry_from before (e' ∷ es) down (suc i) e is =
     subst (λ (n : ℕ). all n ≡ tree_of all n e) next
     (tree-entry_from (before ++ new ∷ []) es (subst (λ (n : ℕ). PointDown n es) longer down.1) i e is)
 
-tree-entry : (cells : List Entry) → PointDown 0 cells → (c : ℕ) (e : Entry) → slice_get cells c ≡ Some e
+pub tree-entry : (cells : List Entry) → PointDown 0 cells → (c : ℕ) (e : Entry) → slice_get cells c ≡ Some e
     → tree_under cells [] c ≡ tree_of (tree_under cells []) c e
 tree-entry cells down c e is =
     let all : ℕ → Term = tree_at (trees_from [] cells) in
@@ -90,7 +89,7 @@ tree-free cells (b ∷ bs) down v is unbound =
     ap (put_at b.variable (tree_under cells bs b.target)) (tree-free cells bs down v is parts.1)
     ∙ if_other v b.variable (tree_under cells bs b.target) (var v) (λ e. parts.0 (sym e))
 
-pub tree-variable : (s : Equations) (v : ℕ) → IsSound s → IsFree s v → tree s v ≡ var v
+pub tree-variable : FreeVariablesStand
 tree-variable s v sound free = tree-free s.cells s.bindings sound.down v free.variable free.unbound
 
 -- the two trees of each binding are equal

@@ -1,7 +1,6 @@
 -- Equations between cells: each cell is a variable or an application, and variables are bound to cells.
-use Rattle.std.specs.Prelude.{◌≡◌, ℕ, suc, ◌+◌, ◌==◌, is_none, if◌then◌else◌, List, [], ◌∷◌, ◌++◌, Option, Some, None, slice_get}
-use Rattle.pm_store.specs.declared.store.Entry.{Entry}
-use Rattle.pm_store.specs.declared.store.Entry.TheVariants.{Variable, Application}
+use Rattle.std.specs.Prelude.{◌≡◌, ℕ, suc, ◌+◌, ◌==◌, is_none, if◌then◌else◌, List, [], ◌∷◌, ◌++◌, replicate, Option, Some, None, slice_get}
+use Rattle.pm_store.specs.Entries.{Entry, Variable, Application}
 
 -- a variable and the cell that it is bound to
 pub record Binding : Type 0 where
@@ -18,6 +17,14 @@ no_equations = record { cells = []; bindings = [] }
 
 abbrev pub with_cell : Equations → Entry → Equations
 with_cell s entry = record { cells = s.cells ++ entry ∷ []; bindings = s.bindings }
+
+-- so many more cells, each a variable
+abbrev pub with_new_variables : Equations → ℕ → Equations
+with_new_variables s count = record {
+  cells = s.cells
+      ++ replicate count Variable;
+  bindings = s.bindings;
+}
 
 abbrev pub with_binding : Equations → ℕ → ℕ → Equations
 with_binding s v t = record { cells = s.cells; bindings = record { variable = v; target = t } ∷ s.bindings }

@@ -1,12 +1,12 @@
 -- Laws of solutions, and of marks.
-use Rattle.std.specs.Prelude.{◌≡◌, ◌≢◌, ℕ, ◌<◌, ◌≤◌, List, Some, length, slice_get, slice_index_or}
+use Rattle.std.specs.Prelude.{◌≡◌, ◌≢◌, ◌↔◌, ℕ, ◌<◌, ◌≤◌, List, Some, Contains, length, slice_get, slice_index_or}
 use Rattle.pm_logic.specs.Term.{Term, var, tree_at}
-use Rattle.pm_store.specs.declared.store.Entry.{Entry}
-use Rattle.pm_store.specs.Equations.{Equations, with_cell, with_binding}
+use Rattle.pm_store.specs.Entries.{Entry}
+use Rattle.pm_store.specs.Equations.{Equations, with_cell, with_binding, IsFree}
 use Rattle.pm_store.specs.Solutions.{Solves, with_tree}
 use Rattle.pm_store.specs.Sound.{IsSound}
 use Rattle.pm_store.specs.Trees.{tree, fill, Occurs}
-use Rattle.pm_store.specs.Marks.{Counts, IsLater, HasMark}
+use Rattle.pm_store.specs.Marks.{Counts, counts_of, IsLater, HasMark, at_mark, IsEarlier, bound_since}
 use Rattle.pm_store.specs.Resolved.{Resolved, row_of, IsResolved}
 
 -- the cells' trees solve the store
@@ -20,22 +20,51 @@ TreesAreGeneral = (s : Equations) (solution : ℕ → Term) → IsSound s → So
 
 -- a solution stays one with any tree for a cell that isn't there
 abbrev pub OtherCellsAreOpen : Type 0
-OtherCellsAreOpen = (s : Equations) (solution : ℕ → Term) (c : ℕ) (t : Term) → IsSound s → length s.cells ≤ c → Solves s solution
+OtherCellsAreOpen = (s : Equations) (solution : ℕ → Term) (c : ℕ) (t : Term) → IsSound s
+    → length s.cells ≤ c → Solves s solution
     → Solves s (with_tree solution c t)
+
+-- what solves a store that has grown solves it as it was
+abbrev pub LaterSolutions : Type 0
+LaterSolutions = (before after : Equations) (trees : ℕ → Term) → IsLater before after
+    → Solves after trees → Solves before trees
+
+-- a free variable has itself for its tree
+abbrev pub FreeVariablesStand : Type 0
+FreeVariablesStand = (s : Equations) (v : ℕ) → IsSound s → IsFree s v → tree s v ≡ var v
+
+-- the variables in the tree of a cell are free
+abbrev pub TreesAreOfFreeVariables : Type 0
+TreesAreOfFreeVariables = (s : Equations) (c v : ℕ) → IsSound s → c < length s.cells
+    → Occurs v (tree s c) → IsFree s v
+
+-- in a store that has grown, a cell has the tree that it had, with the new trees in the place of its variables
+abbrev pub LaterTrees : Type 0
+LaterTrees = (before after : Equations) → IsSound before → IsSound after → IsLater before after
+    → (c : ℕ) → c < length before.cells → tree after c ≡ fill (tree after) (tree before c)
+
+-- a variable that was bound isn't free, now or later
+abbrev pub BoundVariablesStay : Type 0
+BoundVariablesStay = (s after : Equations) (v t : ℕ) → IsLater (with_binding s v t) after
+    → ¬ IsFree after v
 
 -- no solution gives a variable the tree of another term in which it occurs
 abbrev pub CyclesHaveNoSolution : Type 0
-CyclesHaveNoSolution = (s : Equations) (v t : ℕ) → IsSound s → t < length s.cells → Occurs v (tree s t) → tree s t ≢ var v
+CyclesHaveNoSolution = (s : Equations) (v t : ℕ) → IsSound s → t < length s.cells
+    → Occurs v (tree s t) → tree s t ≢ var v
     → (solution : ℕ → Term) → Solves s solution → solution v ≢ solution t
 
 -- the terms that a resolver has given for cells are those of one solution
 abbrev pub ResolvedTermsSolve : Type 0
-ResolvedTermsSolve = (s : Equations) (r : Resolved) (table : List Term) → IsSound s → IsResolved s r table
-    → (solution : ℕ → Term) × Solves s solution × ((cell row : ℕ) → row_of r cell ≡ Some row → slice_get table row ≡ Some (solution cell))
+ResolvedTermsSolve = (s : Equations) (r : Resolved) (table : List Term) → IsSound s
+    → IsResolved s r table
+    → (solution : ℕ → Term) × Solves s solution × ((cell row : ℕ) → row_of r cell ≡ Some row
+    → slice_get table row ≡ Some (solution cell))
 
 -- in each solution the trees of these cells are instances of them, by its trees of the free variables
 abbrev pub ResolvedTermsAreGeneral : Type 0
-ResolvedTermsAreGeneral = (s : Equations) (r : Resolved) (table : List Term) (solution : ℕ → Term) → IsSound s → IsResolved s r table → Solves s solution
+ResolvedTermsAreGeneral = (s : Equations) (r : Resolved) (table : List Term) (solution : ℕ → Term)
+    → IsSound s → IsResolved s r table → Solves s solution
     → (cell row : ℕ) → cell < length s.cells → row_of r cell ≡ Some row
     → solution cell ≡ fill (λ n. solution (slice_index_or r.free n 0)) (tree_at table row)
 
@@ -54,3 +83,28 @@ LaterIsTransitive = (a b c : Equations) → IsLater a b → IsLater b c → IsLa
 -- a store that has grown has the marks that it had
 abbrev pub MarksLast : Type 0
 MarksLast = (s t : Equations) (mark : Counts) → IsLater s t → HasMark s mark → HasMark t mark
+
+-- a store that has grown is at its mark as it was when it had so many cells and bindings
+abbrev pub MarksRestore : Type 0
+MarksRestore = (before s : Equations) (mark : Counts) → IsLater before s
+    → mark ≡ counts_of before → at_mark s mark ≡ before
+
+-- a store that has grown is at a mark as it was there before
+abbrev pub MarksKeep : Type 0
+MarksKeep = (s t : Equations) (mark : Counts) → IsLater s t → HasMark s mark
+    → at_mark t mark ≡ at_mark s mark
+
+-- a store at a mark has the earlier marks still, and is at each as it was
+pub record Nests (s : Equations) (early late : Counts) : Type 0 where
+  pub has : HasMark (at_mark s late) early
+  pub same : at_mark (at_mark s late) early ≡ at_mark s early
+
+abbrev pub MarksNest : Type 0
+MarksNest = (s : Equations) (early late : Counts) → HasMark s early → HasMark s late
+    → IsEarlier early late → Nests s early late
+
+-- of the variables that were free at a mark, those bound since aren't free, and the others are
+abbrev pub BoundSinceTells : Type 0
+BoundSinceTells = (s : Equations) (mark : Counts) (v : ℕ) → HasMark s mark
+    → IsFree (at_mark s mark) v
+    → IsFree s v ↔ (¬ Contains (bound_since s mark) v)

@@ -1,10 +1,11 @@
+pub mod Entries
 pub mod Equations
 pub mod Solutions
 pub mod Trees
 pub mod Sound
+pub mod Growth
 pub mod Marks
-pub mod Stored
 pub mod View
 pub mod Resolved
-pub mod Pending
 pub mod Laws
+pub mod Inside

@@ -1,10 +1,10 @@
 -- What a resolver has given: a row for each resolved cell, and the free variables by their numbers.
-use Rattle.std.specs.Prelude.{◌≡◌, ◌≢◌, ℕ, suc, ◌==◌, if◌then◌else◌, List, [], ◌∷◌, ◌++◌, Option, Some, None, Contains, length, slice_get}
+use Rattle.std.specs.Prelude.{◌≡◌, ◌≢◌, ℕ, suc, ◌≤◌, ◌==◌, if◌then◌else◌, List, [], ◌∷◌, ◌++◌, Option, Some, None, Contains, length, slice_get}
 use Rattle.pm_logic.specs.Lists.{AreDistinct}
 use Rattle.pm_logic.specs.Term.{Term, var, app, Terms, no_terms, more_terms}
 use Rattle.pm_logic.specs.Table.{variable_count}
 use Rattle.pm_store.specs.Equations.{Equations, IsFree}
-use Rattle.pm_store.specs.Trees.{tree, fill, Occurs}
+use Rattle.pm_store.specs.Trees.{tree, fill, Occurs, IsPart}
 
 -- the row of each cell that was resolved, and the free variables in the order of their numbers
 pub record Resolved : Type 0 where
@@ -63,3 +63,8 @@ pub record IsMore (r : Resolved) (table : List Term) (new : Resolved) (grown : L
   pub rows : (more : List (ℕ × ℕ)) × (new.rows ≡ r.rows ++ more)
   pub free : (more : List ℕ) × (new.free ≡ r.free ++ more)
   pub terms : (more : List Term) × (grown ≡ table ++ more)
+
+-- each term that was added stands in this one (opened only by a proof that asks for it)
+unfoldable pub AddsPartsOf : Term → List Term → List Term → Type 0
+AddsPartsOf whole table grown = (row : ℕ) (t : Term) → length table ≤ row
+    → slice_get grown row ≡ Some t → IsPart t whole

@@ -1,7 +1,6 @@
 -- What always holds of a store.
 use Rattle.std.specs.Prelude.{ℕ, suc, ◌<◌, List, [], ◌∷◌, All, length}
-use Rattle.pm_store.specs.declared.store.Entry.{Entry}
-use Rattle.pm_store.specs.declared.store.Entry.TheVariants.{Variable, Application}
+use Rattle.pm_store.specs.Entries.{Entry, Variable, Application}
 use Rattle.pm_store.specs.Equations.{Binding, Equations, IsFree}
 use Rattle.pm_store.specs.Trees.{tree, Occurs}
 
@@ -24,7 +23,8 @@ pub record CanBind (s : Equations) (v t : ℕ) : Type 0 where
 -- each binding could be made over those before it
 abbrev pub AreMade : List Entry → List Binding → Type 0
 AreMade cells [] = Unit {0}
-AreMade cells (b ∷ bs) = CanBind (record { cells = cells; bindings = bs }) b.variable b.target × AreMade cells bs
+AreMade cells (b ∷ bs) = CanBind (record { cells = cells; bindings = bs }) b.variable b.target
+    × AreMade cells bs
 
 -- cells point below themselves, and bindings make no cycle
 pub record IsSound (s : Equations) : Type 0 where

@@ -1,8 +1,7 @@
 -- The trees of cells in which each free variable stands for itself.
-use Rattle.std.specs.Prelude.{◌≡◌, ℕ, ◌+◌, ◌⊎◌, ◌==◌, if◌then◌else◌, List, [], ◌∷◌, ◌++◌, length, map}
+use Rattle.std.specs.Prelude.{◌≡◌, ℕ, ◌+◌, ◌<◌, ◌⊎◌, ◌==◌, if◌then◌else◌, List, [], ◌∷◌, ◌++◌, length, map}
 use Rattle.pm_logic.specs.Term.{Term, var, app, Terms, no_terms, more_terms, as_terms, tree_at}
-use Rattle.pm_store.specs.declared.store.Entry.{Entry}
-use Rattle.pm_store.specs.declared.store.Entry.TheVariants.{Variable, Application}
+use Rattle.pm_store.specs.Entries.{Entry, Variable, Application}
 use Rattle.pm_store.specs.Equations.{Binding, Equations}
 
 -- the tree of the entry at a cell, over the trees of its arguments
@@ -13,7 +12,8 @@ tree_of tree cell (Application symbol args) = app symbol (as_terms (map tree arg
 -- the trees of entries, each over those before it
 abbrev pub trees_from : List Term → List Entry → List Term
 trees_from before [] = before
-trees_from before (e ∷ es) = trees_from (before ++ tree_of (tree_at before) (length before) e ∷ []) es
+trees_from before (e ∷ es) = trees_from (before
+    ++ tree_of (tree_at before) (length before) e ∷ []) es
 
 -- a term with another in the place of a variable
 abbrev mutual
@@ -32,6 +32,10 @@ tree_under cells (b ∷ bs) c = put_at b.variable (tree_under cells bs b.target)
 
 abbrev pub tree : Equations → ℕ → Term
 tree s = tree_under s.cells s.bindings
+
+-- the cells that were there have their trees still
+abbrev pub KeepsTrees : Equations → Equations → Type 0
+KeepsTrees old new = (c : ℕ) → c < length old.cells → tree new c ≡ tree old c
 
 -- a variable occurs in a term
 abbrev mutual
@@ -62,3 +66,13 @@ abbrev mutual
   pub size_among : Terms → ℕ
   size_among no_terms = 0
   size_among (more_terms t ts) = size t + size_among ts
+
+-- the term stands in the other: it is this, or stands in an argument
+abbrev mutual
+  pub IsPart : Term → Term → Type 0
+  IsPart t (var n) = t ≡ var n
+  IsPart t (app symbol args) = (t ≡ app symbol args) ⊎ IsPartAmong t args
+
+  pub IsPartAmong : Term → Terms → Type 0
+  IsPartAmong t no_terms = ⊥
+  IsPartAmong t (more_terms u us) = IsPart t u ⊎ IsPartAmong t us

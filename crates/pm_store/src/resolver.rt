@@ -1,12 +1,14 @@
+//! The terms of cells, as rows of a table.
 ghost use Rattle.std.specs.Prelude.{◌≡◌, ◌≢◌, ◌<◌, ◌≤◌, ◌++◌, ◌∷◌, [], ℕ, Some, None, All, IfOk, OnOk, OnErr, length, map, reverse, slice_get, slice_index_or};
 ghost use Rattle.pm_logic.specs.Term.{Term, tree_at};
 ghost use Rattle.pm_logic.specs.Table.{variable_count};
 ghost use Rattle.pm_store.specs.Equations.{Equations, IsFree};
 ghost use Rattle.pm_store.specs.Solutions.{Solves};
 ghost use Rattle.pm_store.specs.Trees.{tree, fill};
+ghost use Rattle.pm_store.specs.Sound.{IsSound};
 ghost use Rattle.pm_store.specs.declared.resolver.Place.TheVariants.{Visit, Build};
-ghost use Rattle.pm_store.specs.Resolved.{Resolved, nothing_resolved, row_of, with_variables, numbered, IsResolved, IsMore};
-ghost use Rattle.pm_store.specs.Pending.{visits, IsReadyAt, Proceeds};
+ghost use Rattle.pm_store.specs.Resolved.{Resolved, nothing_resolved, row_of, with_variables, numbered, IsResolved, IsMore, AddsPartsOf};
+ghost use Rattle.pm_store.specs.Inside.Pending.{visits, cell_of, IsReadyAt, Proceeds, AddsRowsOf, AddsPlacesOf};
 
 use crate::store::{Addr, Cell, Store};
 use indexmap::IndexMap;
@@ -48,7 +50,8 @@ impl Resolver {
     /// variables.
     pub fn new(alloc: Global) -> Resolver
         ensures value { result ≡ nothing_resolved }
-        ensures any { (s : Equations) (table : _) → variable_count table ≡ 0 → IsResolved s result table }
+        ensures any { (s : Equations) (table : _) → variable_count table ≡ 0
+            → IsResolved s result table }
     {
         Resolver {
             alloc,
@@ -69,13 +72,19 @@ impl Resolver {
     ) -> Result<TermId, AllocError>
         requires within { a < length store.now.cells }
         requires resolved { IsResolved store.now self.old into.old }
-        ensures row { IfOk result (λ row. slice_get into.new row ≡ Some (fill (numbered self.new.free) (tree store.now a))) }
-        ensures order { OnOk result (self.new.free ≡ with_variables self.old.free (tree store.now a)) }
+        ensures row { IfOk result (λ row. slice_get into.new row
+            ≡ Some (fill (numbered self.new.free) (tree store.now a))) }
+        ensures order { OnOk result (self.new.free
+            ≡ with_variables self.old.free (tree store.now a)) }
         ensures resolved { OnOk result (IsResolved store.now self.new into.new) }
-        ensures general { IfOk result (λ row. (trees : ℕ → Term) → Solves store.now trees → trees a ≡ fill (λ n. trees (slice_index_or self.new.free n 0)) (tree_at into.new row)) }
+        ensures general { IfOk result (λ row. (trees : ℕ → Term) → Solves store.now trees
+            → trees a ≡ fill (λ n. trees (slice_index_or self.new.free n 0)) (tree_at into.new row)) }
         ensures noted { IfOk result (λ row. row_of self.new a ≡ Some row) }
-        ensures kept { (cell row : ℕ) → row_of self.old cell ≡ Some row → row_of self.new cell ≡ Some row }
+        ensures kept { (cell row : ℕ) → row_of self.old cell ≡ Some row
+            → row_of self.new cell ≡ Some row }
         ensures later { IsMore self.old into.old self.new into.new }
+        ensures added { OnOk result (AddsPartsOf (fill (numbered self.new.free) (tree store.now a))
+            into.old into.new) }
         ensures err { OnErr result (self.new ≡ self.old) }
     {
         // For the proof: the store is sound.
@@ -100,9 +109,12 @@ impl Resolver {
         requires within { a < length store.now.cells }
         requires resolved { IsResolved store.now self.old into.old }
         ensures row { IfOk result (λ row. row_of self.new a ≡ Some row) }
-        ensures order { OnOk result (self.new.free ≡ with_variables self.old.free (tree store.now a)) }
+        ensures order { OnOk result (self.new.free
+            ≡ with_variables self.old.free (tree store.now a)) }
         ensures resolved { OnOk result (IsResolved store.now self.new into.new) }
         ensures more { IsMore self.old into.old self.new into.new }
+        ensures added { OnOk result (AddsPartsOf (fill (numbered self.new.free) (tree store.now a))
+            into.old into.new) }
     {
         let mut pending = Vec::new(self.alloc);
         pending.push(Place::Visit(a))?;
@@ -122,8 +134,13 @@ impl Resolver {
     ) -> Result<(), AllocError>
         requires resolved { IsResolved store.now self.old into.old }
         requires ready { IsReadyAt store.now self.old place [] }
-        ensures ok { OnOk result (Proceeds store.now place self.old into.old pending.old.items self.new into.new pending.new.items) }
+        ensures ok { OnOk result (Proceeds store.now place self.old into.old pending.old.items
+            self.new into.new pending.new.items) }
         ensures more { IsMore self.old into.old self.new into.new }
+        ensures rows { OnOk result (AddsRowsOf store.now (cell_of place) into.old
+            self.new into.new) }
+        ensures places { OnOk result (AddsPlacesOf store.now (cell_of place) pending.old.items
+            pending.new.items) }
     {
         match place {
             Place::Visit(cell) => self.visit(store, cell, into, pending),
@@ -134,7 +151,11 @@ impl Resolver {
     // Gives a cell a row.
     fn note(&mut self, cell: Addr, row: TermId) -> Result<(), AllocError>
         requires { row_of self.old cell ≡ None }
-        ensures ok { OnOk result (self.new ≡ record { rows = self.old.rows ++ (cell, row) ∷ []; free = self.old.free }) }
+        ensures ok { OnOk result (self.new ≡ record {
+          rows = self.old.rows
+              ++ (cell, row) ∷ [];
+          free = self.old.free;
+        }) }
         ensures err { OnErr result (self.new ≡ self.old) }
     {
         self.rows.insert(cell, row)?;
@@ -170,8 +191,12 @@ impl Resolver {
     ) -> Result<(), AllocError>
         requires within { cell < length store.now.cells }
         requires resolved { IsResolved store.now self.old into.old }
-        ensures ok { OnOk result (Proceeds store.now (Visit cell) self.old into.old pending.old.items self.new into.new pending.new.items) }
+        ensures ok { OnOk result (Proceeds store.now (Visit cell) self.old into.old pending.old.items
+            self.new into.new pending.new.items) }
         ensures more { IsMore self.old into.old self.new into.new }
+        ensures rows { OnOk result (AddsRowsOf store.now cell into.old self.new into.new) }
+        ensures places { OnOk result (AddsPlacesOf store.now cell pending.old.items
+            pending.new.items) }
     {
         if self.find(cell).is_some() {
             return Ok(());
@@ -198,16 +223,18 @@ impl Resolver {
         v: Addr,
         into: &mut TermTable,
     ) -> Result<TermId, AllocError>
+        requires sound { IsSound store.now }
         requires free { IsFree store.now v }
         requires resolved { IsResolved store.now self.old into.old }
         ensures row { IfOk result (λ row. row_of self.new v ≡ Some row) }
-        ensures others { OnOk result ((cell : ℕ) → cell ≢ v → row_of self.new cell ≡ row_of self.old cell) }
-        ensures order { OnOk result (self.new.free ≡ with_variables self.old.free (tree store.now v)) }
+        ensures others { OnOk result ((cell : ℕ) → cell ≢ v
+            → row_of self.new cell ≡ row_of self.old cell) }
+        ensures order { OnOk result (self.new.free
+            ≡ with_variables self.old.free (tree store.now v)) }
         ensures resolved { OnOk result (IsResolved store.now self.new into.new) }
         ensures more { IsMore self.old into.old self.new into.new }
+        ensures rows { OnOk result (AddsRowsOf store.now v into.old self.new into.new) }
     {
-        // For the proof: the store is sound.
-        let _cells = store.len();
         if let Some(row) = self.find(v) {
             return Ok(row);
         }
@@ -221,8 +248,10 @@ impl Resolver {
     fn build(&mut self, store: &Store, cell: Addr, into: &mut TermTable) -> Result<(), AllocError>
         requires resolved { IsResolved store.now self.old into.old }
         requires ready { IsReadyAt store.now self.old (Build cell) [] }
-        ensures ok { OnOk result ((pending : _) → Proceeds store.now (Build cell) self.old into.old pending self.new into.new pending) }
+        ensures ok { OnOk result ((pending : _)
+            → Proceeds store.now (Build cell) self.old into.old pending self.new into.new pending) }
         ensures more { IsMore self.old into.old self.new into.new }
+        ensures rows { OnOk result (AddsRowsOf store.now cell into.old self.new into.new) }
     {
         if self.find(cell).is_some() {
             return Ok(());

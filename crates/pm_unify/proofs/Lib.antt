@@ -3,5 +3,5 @@ pub mod NoteLemmas
 pub mod PairLemmas
 pub mod LeavesLemmas
 pub mod TurnLemmas
-pub mod StandLemmas
+pub mod UnifyingLemmas
 pub mod OccurrenceLemmas

@@ -1,16 +1,18 @@
 -- The search for a variable in the tree of a cell.
-use Rattle.std.proofs.Common.{◌≡◌, ℕ, suc, ◌<◌, inl, inr, List, [], ◌∷◌, ◌++◌, length, map, refl, sym, ◌∙◌, ap, subst, arith, Bool, true, false, eqb, eq-eqb, true≢false}
-use Rattle.std.specs.Prelude.{All, Contains}
+use Rattle.std.proofs.Common.{◌≡◌, ℕ, zero, suc, ◌+◌, ◌<◌, ◌≤◌, inl, inr, List, [], ◌∷◌, ◌++◌, length, map, take, get_or, refl, sym, ◌∙◌, ap, subst, arith, Bool, true, false, eqb, eq-eqb, eqb-true, true≢false}
+use Rattle.std.specs.Prelude.{◌↔◌, IsTrue, All, Contains}
+use Rattle.std.proofs.lemmas.List.{take_more, take_all}
 use Rattle.std.proofs.lemmas.List.Elements.{All-nil, All-cons, All-head, All-tail, All-append, All-push, All-contains}
-use Rattle.pm_logic.specs.Term.{Term, app, as_terms}
+use Rattle.pm_logic.specs.Term.{Term, var, app, as_terms}
 use Rattle.pm_store.specs.Equations.{Equations, IsFree}
 use Rattle.pm_store.specs.Sound.{IsSound}
 use Rattle.pm_store.specs.Trees.{tree, Occurs, OccursAmong, size, size_among}
 use Rattle.pm_store.proofs.TermLemmas.{size-positive}
 use Rattle.pm_store.proofs.TreeLemmas.{tree-variable}
-use Rattle.pm_unify.specs.Support.{IsSupported, Notes}
+use Rattle.pm_unify.specs.Inside.Support.{IsSupported, Notes}
 use Rattle.pm_unify.proofs.TurnLemmas.{total-popped, total-replaced}
-use Rattle.pm_unify.proofs.SupportLemmas.{All-left, All-last, total, all_supported, supported_drop, supported_again, supported_enter}
+use Rattle.pm_unify.proofs.SupportLemmas.{total, all_supported, supported_drop, supported_again, supported_open, supported_enter}
+use Rattle.pm_store.proofs.ListLemmas.{All-left, All-right, All-last}
 
 abbrev pub Lacks : Equations → ℕ → ℕ → Type 0
 Lacks s v c = ¬ Occurs v (tree s c)
@@ -38,6 +40,38 @@ among_lacks : (v : ℕ) (trees : ℕ → Term) (args : List ℕ) → All (λ x. 
 among_lacks v trees [] lacks occurs = occurs
 among_lacks v trees (x ∷ xs) lacks (inl here) = All-head (λ y. ¬ Occurs v (trees y)) x xs lacks here
 among_lacks v trees (x ∷ xs) lacks (inr later) = among_lacks v trees xs (All-tail (λ y. ¬ Occurs v (trees y)) x xs lacks) later
+
+-- what one look at a cell tells: a free variable, or an application without arguments
+pub occurs_in_variable : (s : Equations) (v c w : ℕ) (answer : Bool) → IsSound s → IsFree s w → tree s c ≡ tree s w → answer ≡ eqb w v
+    → IsTrue answer ↔ Occurs v (tree s c)
+occurs_in_variable s v c w answer sound free is_end is =
+    let shown : tree s c ≡ var w = is_end ∙ tree-variable s w sound free in (
+      λ yes. subst (λ (u : Term). Occurs v u) (sym shown) (sym (eqb-true w v (sym is ∙ yes))),
+      λ occurs. is ∙ eq-eqb w v (sym (subst (λ (u : Term). Occurs v u) shown occurs)),
+    )
+
+pub constant_lacks : (s : Equations) (v c symbol : ℕ) (args : List ℕ) → tree s c ≡ app symbol (as_terms (map (tree s) args)) → length args ≡ 0 → Lacks s v c
+constant_lacks s v c symbol [] shown none occurs = subst (λ (u : Term). Occurs v u) shown occurs
+constant_lacks s v c symbol (x ∷ xs) shown none occurs = omega (arith, none)
+
+-- cells that were looked at one by one
+pub lacks_more : (s : Equations) (v : ℕ) (cells : List ℕ) (i c : ℕ) → i < length cells → c ≡ get_or cells i c → All (Lacks s v) (take i cells) → Lacks s v c
+    → All (Lacks s v) (take (i + 1) cells)
+lacks_more s v cells i c within read before here =
+    subst (λ (cs : List ℕ). All (Lacks s v) cs) (sym (take_more cells i c within ∙ ap (λ x. take i cells ++ x ∷ []) (sym read)))
+    (All-push (Lacks s v) (take i cells) c before here)
+
+pub lacks_all : (s : Equations) (v : ℕ) (cells : List ℕ) (i : ℕ) → length cells ≤ i → All (Lacks s v) (take i cells) → OccursAmong v (as_terms (map (tree s) cells)) → ⊥
+lacks_all s v cells i beyond lacks =
+    among_lacks v (tree s) cells (subst (λ (cs : List ℕ). All (Lacks s v) cs) (take_all i cells beyond) lacks)
+
+found_at : (v : ℕ) (trees : ℕ → Term) (cells : List ℕ) (i d : ℕ) → i < length cells → Occurs v (trees (get_or cells i d)) → OccursAmong v (as_terms (map trees cells))
+found_at v trees [] i d within occurs = absurd (omega arith)
+found_at v trees (x ∷ xs) zero d within occurs = inl occurs
+found_at v trees (x ∷ xs) (suc i) d within occurs = inr (found_at v trees xs i d (omega arith) occurs)
+
+pub found_among : (s : Equations) (v : ℕ) (cells : List ℕ) (i c : ℕ) → i < length cells → c ≡ get_or cells i c → Occurs v (tree s c) → OccursAmong v (as_terms (map (tree s) cells))
+found_among s v cells i c within read occurs = found_at v (tree s) cells i c within (subst (λ (n : ℕ). Occurs v (tree s n)) read occurs)
 
 args_smaller : (trees : ℕ → Term) (args : List ℕ) (n : ℕ) → size_among (as_terms (map trees args)) < n → All (λ x. size (trees x) < n) args
 args_smaller trees [] n less = All-nil (λ x. size (trees x) < n)
@@ -71,6 +105,22 @@ search_again s v t rest visited c there search' = record {
   lacks = λ pending seen. search'.lacks (All-push (Lacks s v) rest c pending (All-contains (Lacks s v) visited c seen there)) seen;
   supported = supported_again (cell_size s) (Lacks s v) rest visited c there search'.supported;
 }
+
+pub search_opens : (s : Equations) (v t : ℕ) (rest visited : List ℕ) (c symbol : ℕ) (args : List ℕ) → All (λ x. x < length s.cells) args
+    → tree s c ≡ app symbol (as_terms (map (tree s) args)) → Searches s v t (rest ++ c ∷ []) visited → Searches s v t (rest ++ args) visited
+search_opens s v t rest visited c symbol args below is search' =
+    let to_args : Occurs v (tree s c) → OccursAmong v (as_terms (map (tree s) args)) = λ occurs. subst (λ (u : Term). Occurs v u) is occurs in
+    let from_args : OccursAmong v (as_terms (map (tree s) args)) → Occurs v (tree s c) = λ among. subst (λ (u : Term). Occurs v u) (sym is) among in
+    let larger : size_among (as_terms (map (tree s) args)) < cell_size s c = omega (arith, ap size is) in
+    let by_args : All (Lacks s v) args → Lacks s v c = λ lacks occurs. among_lacks v (tree s) args lacks (to_args occurs) in
+    record {
+      within = All-append (λ x. x < length s.cells) rest args (All-left (λ x. x < length s.cells) rest (c ∷ []) search'.within) below;
+      leads = All-append (Leads s v t) rest args (All-left (Leads s v t) rest (c ∷ []) search'.leads)
+          (among_leads v (tree s) args (Occurs v (tree s t)) (λ among. All-last (Leads s v t) rest c search'.leads (from_args among)));
+      lacks = λ pending seen.
+          search'.lacks (All-push (Lacks s v) rest c (All-left (Lacks s v) rest args pending) (by_args (All-right (Lacks s v) rest args pending))) seen;
+      supported = supported_open (cell_size s) (Lacks s v) rest args visited c (args_smaller (tree s) args (cell_size s c) larger) by_args search'.supported;
+    }
 
 pub search_enters : (s : Equations) (v t : ℕ) (rest visited : List ℕ) (c symbol : ℕ) (args : List ℕ) → All (λ x. x < length s.cells) args
     → tree s c ≡ app symbol (as_terms (map (tree s) args)) → Searches s v t (rest ++ c ∷ []) visited → Searches s v t (rest ++ args) (visited ++ c ∷ [])
@@ -125,4 +175,7 @@ module _ (s : Equations) (v t : ℕ) (now rest visited : List ℕ) (c : ℕ) (is
   turn_enters keys after symbol args is_new noted answer put_in below shown =
       let notes : Notes visited keys c true = subst (λ (b : Bool). Notes visited keys c b) answer noted in
       subst (λ (cs : List ℕ). Searches s v t cs keys) (sym put_in)
-      (subst (λ (cs : List ℕ). Searches s v t (rest ++ args) cs) (sym notes) (search_enters s v t rest visited c symbol args below shown popped))
+      (elim notes [
+        | inl same ↦ subst (λ (cs : List ℕ). Searches s v t (rest ++ args) cs) (sym same) (search_opens s v t rest visited c symbol args below shown popped)
+        | inr more ↦ subst (λ (cs : List ℕ). Searches s v t (rest ++ args) cs) (sym more) (search_enters s v t rest visited c symbol args below shown popped)
+      ])

@@ -6,15 +6,15 @@ use Rattle.std.proofs.lemmas.List.Elements.{All-nil, All-cons, All-head, All-tai
 use Rattle.pm_logic.specs.Term.{Term, more_terms, as_terms}
 use Rattle.pm_store.specs.Equations.{Equations}
 use Rattle.pm_store.specs.Trees.{size_among}
-use Rattle.pm_unify.specs.Pairs.{IsEqual, IsWithin, AreWithin, pair_size}
+use Rattle.pm_unify.specs.Inside.Pairs.{IsEqual, IsPairWithin, ArePairsWithin, pair_size}
 use Rattle.pm_unify.proofs.SupportLemmas.{total}
 
-pub zip_within : (s : Equations) (xs ys : List ℕ) → All (λ x. x < length s.cells) xs → All (λ y. y < length s.cells) ys → AreWithin s (zip xs ys)
-zip_within s [] ys left right = All-nil (IsWithin s)
-zip_within s (x ∷ xs) [] left right = All-nil (IsWithin s)
+pub zip_within : (s : Equations) (xs ys : List ℕ) → All (λ x. x < length s.cells) xs → All (λ y. y < length s.cells) ys → ArePairsWithin s (zip xs ys)
+zip_within s [] ys left right = All-nil (IsPairWithin s)
+zip_within s (x ∷ xs) [] left right = All-nil (IsPairWithin s)
 zip_within s (x ∷ xs) (y ∷ ys) left right =
     let inside : ℕ → Type 0 = λ c. c < length s.cells in
-    All-cons (IsWithin s) (x, y) (zip xs ys) (All-head inside x xs left, All-head inside y ys right)
+    All-cons (IsPairWithin s) (x, y) (zip xs ys) (All-head inside x xs left, All-head inside y ys right)
     (zip_within s xs ys (All-tail inside x xs left) (All-tail inside y ys right))
 
 -- arguments make up less than the terms

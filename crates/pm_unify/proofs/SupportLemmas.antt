@@ -1,20 +1,9 @@
 -- Lists whose things have a property, and what is known of things that were gone into.
 use Rattle.std.proofs.Common.{◌≡◌, ℕ, zero, suc, ◌+◌, ◌<◌, List, [], ◌∷◌, ◌++◌, get_or, arith}
 use Rattle.std.specs.Prelude.{All, Contains}
-use Rattle.std.proofs.lemmas.List.Elements.{All-nil, All-cons, All-head, All-tail, All-push, All-contains}
-use Rattle.pm_unify.specs.Support.{HoldBelow, IsSupported}
-
-module _ {A : Type 0} (holds : A → Type 0) where
-  pub All-left : (xs ys : List A) → All holds (xs ++ ys) → All holds xs
-  All-left [] ys all = All-nil holds
-  All-left (x ∷ xs) ys all = All-cons holds x xs (All-head holds x (xs ++ ys) all) (All-left xs ys (All-tail holds x (xs ++ ys) all))
-
-  pub All-right : (xs ys : List A) → All holds (xs ++ ys) → All holds ys
-  All-right [] ys all = all
-  All-right (x ∷ xs) ys all = All-right xs ys (All-tail holds x (xs ++ ys) all)
-
-  pub All-last : (xs : List A) (x : A) → All holds (xs ++ x ∷ []) → holds x
-  All-last xs x all = All-head holds x [] (All-right xs (x ∷ []) all)
+use Rattle.std.proofs.lemmas.List.Elements.{All-nil, All-push, All-contains}
+use Rattle.pm_store.proofs.ListLemmas.{All-left, All-right, All-last}
+use Rattle.pm_unify.specs.Inside.Support.{HoldBelow, IsSupported}
 
 -- the sizes of all things together
 abbrev pub total : {A : Type 0} → (A → ℕ) → List A → ℕ
@@ -49,7 +38,18 @@ module _ {A : Type 0} (size_of : A → ℕ) (holds : A → Type 0) where
   supported_again rest entered x there supported =
       supported_drop rest entered x (λ n below less. All-contains (λ y. size_of y < n → holds y) entered x below there less) supported
 
-  -- smaller things that give it the property take its place
+  -- smaller things that give it the property take its place, and it isn't noted
+  pub supported_open : (rest parts entered : List A) (x : A) → All (λ y. size_of y < size_of x) parts → (All holds parts → holds x)
+      → IsSupported size_of holds (rest ++ x ∷ []) entered → IsSupported size_of holds (rest ++ parts) entered
+  supported_open rest parts entered x smaller has supported n below_pending below_entered =
+      let holds_below : A → Type 0 = λ y. size_of y < n → holds y in
+      let in_parts : All holds_below parts = All-right holds_below rest parts below_pending in
+      supported n
+      (All-push holds_below rest x (All-left holds_below rest parts below_pending)
+      (λ less. has (λ k d within. in_parts k d within (omega (arith, smaller k d within, less)))))
+      below_entered
+
+  -- so where it is noted
   pub supported_enter : (rest parts entered : List A) (x : A) → All (λ y. size_of y < size_of x) parts → (All holds parts → holds x)
       → IsSupported size_of holds (rest ++ x ∷ []) entered → IsSupported size_of holds (rest ++ parts) (entered ++ x ∷ [])
   supported_enter rest parts entered x smaller has supported n below_pending below_entered =

@@ -1,5 +1,5 @@
 -- One turn of a loop that takes a pair, or a cell, from those that are pending.
-use Rattle.std.proofs.Common.{◌≡◌, ◌≢◌, ℕ, ◌<◌, Bool, true, false, not, eqb, List, [], ◌∷◌, ◌++◌, length, map, refl, sym, ◌∙◌, ap, subst, arith, eqb-true, eq-eqb, true≢false}
+use Rattle.std.proofs.Common.{◌≡◌, ◌≢◌, ℕ, ◌<◌, inl, inr, Bool, true, false, not, eqb, List, [], ◌∷◌, ◌++◌, length, map, refl, sym, ◌∙◌, ap, subst, arith, eqb-true, eq-eqb, true≢false}
 use Rattle.std.specs.Prelude.{◌↔◌, ⊤}
 use Rattle.std.specs.List.{zip}
 use Rattle.pm_logic.specs.Term.{Term, var, app, Terms, as_terms}
@@ -9,12 +9,13 @@ use Rattle.pm_store.specs.Trees.{tree, size}
 use Rattle.pm_store.specs.Sound.{IsSound}
 use Rattle.pm_store.proofs.TermLemmas.{size-positive}
 use Rattle.pm_store.proofs.TreeLemmas.{tree-variable}
-use Rattle.pm_unify.specs.Support.{Notes}
-use Rattle.pm_unify.specs.Pairs.{IsEqual, IsWithin, AreEqual, pair_size}
-use Rattle.pm_unify.specs.Steps.{Leaves, Binds}
-use Rattle.pm_unify.proofs.SupportLemmas.{All-last, total, total-append}
+use Rattle.pm_unify.specs.Inside.Support.{Notes}
+use Rattle.pm_unify.specs.Inside.Pairs.{IsEqual, IsPairWithin, AreEqual, pair_size}
+use Rattle.pm_unify.specs.Inside.Steps.{Leaves, Binds}
+use Rattle.pm_unify.proofs.SupportLemmas.{total, total-append}
+use Rattle.pm_store.proofs.ListLemmas.{All-last}
 use Rattle.pm_unify.proofs.PairLemmas.{total-zip, same_count}
-use Rattle.pm_unify.proofs.LeavesLemmas.{leaves_drop, leaves_again, leaves_apart, AreAlike}
+use Rattle.pm_unify.proofs.LeavesLemmas.{leaves_drop, leaves_again, leaves_open, leaves_apart, AreAlike}
 
 pub total-popped : {A : Type 0} (size_of : A → ℕ) (pending rest : List A) (x : A) → pending ≡ rest ++ x ∷ [] → 0 < size_of x
     → total size_of rest < total size_of pending
@@ -50,14 +51,14 @@ numbers_same m n test = eqb-true m n (by (eqb m n) test)
     by false test = absurd (true≢false test)
 
 -- a term that isn't this variable
-pub variable_apart : (s : Equations) (c v w : ℕ) → IsSound s → IsFree s w → tree s c ≡ tree s w → (v ≡ w → ⊥) → tree s c ≢ var v
-variable_apart s c v w sound free is_end apart e = apart (sym (inside (sym (tree-variable s w sound free) ∙ sym is_end ∙ e)))
+pub variable_apart : (s : Equations) (v w : ℕ) → IsSound s → IsFree s w → (v ≡ w → ⊥) → tree s w ≢ var v
+variable_apart s v w sound free apart e = apart (sym (inside (sym (tree-variable s w sound free) ∙ e)))
   where
     inside : var w ≡ var v → w ≡ v
     inside same = cc
 
-pub application_apart : (t : Term) (symbol v : ℕ) (args : Terms) → t ≡ app symbol args → t ≢ var v
-application_apart t symbol v args is e = absurd (apart (sym is ∙ e))
+pub application_apart : (t u : Term) (symbol v : ℕ) (args : Terms) → u ≡ t → u ≡ app symbol args → t ≢ var v
+application_apart t u symbol v args same is e = absurd (apart (sym is ∙ same ∙ e))
   where
     apart : app symbol args ≡ var v → ⊥
     apart same = cc
@@ -67,8 +68,8 @@ module _ (s : Equations) (pending taken now rest taken' : List (ℕ × ℕ)) (p 
   popped : Leaves s (λ trees. ⊤) pending taken (rest ++ p ∷ []) taken'
   popped = subst (λ (ps : List (ℕ × ℕ)). Leaves s (λ trees. ⊤) pending taken ps taken') is before
 
-  pub pair_within : IsWithin s p
-  pair_within = All-last (IsWithin s) rest p popped.within
+  pub pair_within : IsPairWithin s p
+  pair_within = All-last (IsPairWithin s) rest p popped.within
 
   -- the pair is equal in each solution
   pub turn_equal : ((trees : ℕ → Term) → Solves s trees → IsEqual trees p) → Leaves s (λ trees. ⊤) pending taken rest taken'
@@ -84,15 +85,23 @@ module _ (s : Equations) (pending taken now rest taken' : List (ℕ × ℕ)) (p 
     leaves = leaves_drop s (λ trees. trees v ≡ trees t) pending taken rest taken' p same popped;
   }
 
-  pub turn_binds_left : (v : ℕ) → IsFree s v → tree s p.1 ≢ var v → ((trees : ℕ → Term) → Solves s trees → trees p.0 ≡ trees v)
-      → Binds s v p.1 pending taken rest taken'
-  turn_binds_left v free other is_end =
-      turn_binds v p.1 free pair_within.1 other (λ trees solves. (λ equal. sym (is_end trees solves) ∙ equal, λ equal. is_end trees solves ∙ equal))
+  -- the first cell's end is a free variable, and the second's is another cell
+  pub turn_binds_left : (v t : ℕ) → IsFree s v → t < length s.cells → tree s t ≢ var v → ((trees : ℕ → Term) → Solves s trees → trees p.0 ≡ trees v)
+      → ((trees : ℕ → Term) → Solves s trees → trees p.1 ≡ trees t) → Binds s v t pending taken rest taken'
+  turn_binds_left v t free within other left right =
+      turn_binds v t free within other (λ trees solves. (
+        λ equal. sym (left trees solves) ∙ equal ∙ right trees solves,
+        λ equal. left trees solves ∙ equal ∙ sym (right trees solves),
+      ))
 
-  pub turn_binds_right : (w : ℕ) → IsFree s w → tree s p.0 ≢ var w → ((trees : ℕ → Term) → Solves s trees → trees p.1 ≡ trees w)
-      → Binds s w p.0 pending taken rest taken'
-  turn_binds_right w free other is_end =
-      turn_binds w p.0 free pair_within.0 other (λ trees solves. (λ equal. sym (is_end trees solves) ∙ sym equal, λ equal. sym equal ∙ sym (is_end trees solves)))
+  -- or the second's is a free variable, and the first's is another cell
+  pub turn_binds_right : (w t : ℕ) → IsFree s w → t < length s.cells → tree s t ≢ var w → ((trees : ℕ → Term) → Solves s trees → trees p.1 ≡ trees w)
+      → ((trees : ℕ → Term) → Solves s trees → trees p.0 ≡ trees t) → Binds s w t pending taken rest taken'
+  turn_binds_right w t free within other right left =
+      turn_binds w t free within other (λ trees solves. (
+        λ equal. sym (right trees solves) ∙ sym equal ∙ left trees solves,
+        λ equal. left trees solves ∙ sym equal ∙ sym (right trees solves),
+      ))
 
   -- two applications differ in their symbols, or in how many arguments they have
   pub turn_clashes : (f g : ℕ) (xs ys : List ℕ)
@@ -123,6 +132,9 @@ module _ (s : Equations) (pending taken now rest taken' : List (ℕ × ℕ)) (p 
       → AreAlike s p symbol xs ys → Leaves s (λ trees. ⊤) pending taken after keys
   turn_apart keys after symbol xs ys is_new noted answer put_in alike =
       let notes : Notes taken' keys p true = subst (λ (b : Bool). Notes taken' keys p b) answer noted in
+      let by_keys : List (ℕ × ℕ) → Type 0 = λ ps. Leaves s (λ trees. ⊤) pending taken (rest ++ zip xs ys) ps in
       subst (λ (ps : List (ℕ × ℕ)). Leaves s (λ trees. ⊤) pending taken ps keys) (sym put_in)
-      (subst (λ (ps : List (ℕ × ℕ)). Leaves s (λ trees. ⊤) pending taken (rest ++ zip xs ys) ps) (sym notes)
-      (leaves_apart s pending taken rest taken' p symbol xs ys alike popped))
+      (elim notes [
+        | inl same ↦ subst by_keys (sym same) (leaves_open s pending taken rest taken' p symbol xs ys alike popped)
+        | inr more ↦ subst by_keys (sym more) (leaves_apart s pending taken rest taken' p symbol xs ys alike popped)
+      ])

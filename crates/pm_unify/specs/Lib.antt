@@ -1,4 +1,2 @@
-pub mod Support
-pub mod Pairs
-pub mod Steps
 pub mod Unified
+pub mod Inside

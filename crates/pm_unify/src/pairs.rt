@@ -1,9 +1,10 @@
+//! Pairs of cells that are to be made equal, and how they are taken apart.
 ghost use Rattle.std.specs.Prelude.{◌≡◌, ◌<◌, ◌++◌, ◌∷◌, [], length, IfOk, OnOk};
 ghost use Rattle.std.specs.List.{zip};
 ghost use Rattle.pm_store.specs.Sound.{IsSound};
-ghost use Rattle.pm_unify.specs.Support.{Notes};
-ghost use Rattle.pm_unify.specs.Pairs.{AreWithin, AreSupported};
-ghost use Rattle.pm_unify.specs.Steps.{Takes};
+ghost use Rattle.pm_unify.specs.Inside.Support.{Notes};
+ghost use Rattle.pm_unify.specs.Inside.Pairs.{ArePairsWithin, AreSupported};
+ghost use Rattle.pm_unify.specs.Inside.Steps.{Takes};
 
 use indexmap::IndexSet;
 use pm_store::{Addr, Cell, Store};
@@ -28,7 +29,12 @@ pub struct Pairs {
     /// The pairs that were taken apart, each of which is passed over when it is met again: it is equal
     /// where what is pending is.
     pub taken: IndexSet<(Addr, Addr)>,
+    // How many pairs are still taken apart without a note.
+    unnoted: u32,
 }
+
+// So many pairs are taken apart before the first note: most terms need no more.
+const UNNOTED: u32 = 256;
 
 impl Pairs {
     /// One pending pair.
@@ -41,15 +47,17 @@ impl Pairs {
         Ok(Pairs {
             pending,
             taken: IndexSet::new(alloc),
+            unnoted: UNNOTED,
         })
     }
 
     /// Takes pending pairs apart until one needs a binding.
     pub fn next_step(&mut self, store: &Store) -> Result<Step, AllocError>
         requires sound { IsSound store.now }
-        requires within { AreWithin store.now self.old.pending.items }
+        requires within { ArePairsWithin store.now self.old.pending.items }
         requires supported { AreSupported store.now self.old.pending.items self.old.taken.keys }
-        ensures { IfOk result (Takes store.now self.old.pending.items self.old.taken.keys self.new.pending.items self.new.taken.keys) }
+        ensures { IfOk result (Takes store.now self.old.pending.items self.old.taken.keys
+            self.new.pending.items self.new.taken.keys) }
     {
         while let Some((a, b)) = self.pending.pop() {
             if a == b {
@@ -59,16 +67,16 @@ impl Pairs {
                 Cell::Free(v) => match store.look(b) {
                     Cell::Free(w) => {
                         if v != w {
-                            return Ok(Step::Bind(v, b));
+                            return Ok(Step::Bind(v, w));
                         }
                     }
-                    Cell::App { .. } => return Ok(Step::Bind(v, b)),
+                    Cell::App { .. } => return Ok(Step::Bind(v, store.end(b))),
                 },
                 Cell::App {
                     symbol: f,
                     args: left,
                 } => match store.look(b) {
-                    Cell::Free(w) => return Ok(Step::Bind(w, a)),
+                    Cell::Free(w) => return Ok(Step::Bind(w, store.end(a))),
                     Cell::App {
                         symbol: g,
                         args: right,
@@ -76,7 +84,7 @@ impl Pairs {
                         if f != g || left.len() != right.len() {
                             return Ok(Step::Clash);
                         }
-                        if take(&mut self.taken, a, b)? {
+                        if take(&mut self.taken, &mut self.unnoted, a, b, left.is_empty())? {
                             add_pairs(&mut self.pending, left, right)?;
                         }
                     }
@@ -87,10 +95,24 @@ impl Pairs {
     }
 }
 
-// Notes the pair, and answers whether it is new.
-fn take(taken: &mut IndexSet<(Addr, Addr)>, a: Addr, b: Addr) -> Result<bool, AllocError>
+// Notes the pair, and answers whether it is new. One that has no parts needs no note, and the first
+// ones count as new without a note.
+fn take(
+    taken: &mut IndexSet<(Addr, Addr)>,
+    unnoted: &mut u32,
+    a: Addr,
+    b: Addr,
+    is_last: bool,
+) -> Result<bool, AllocError>
     ensures { IfOk result (Notes taken.old.keys taken.new.keys (a, b)) }
 {
+    if is_last {
+        return Ok(true);
+    }
+    if *unnoted > 0 {
+        *unnoted -= 1;
+        return Ok(true);
+    }
     Ok(taken.insert((a, b))?)
 }
 

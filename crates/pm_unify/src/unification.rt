@@ -1,6 +1,9 @@
+//! The unification of two cells.
 ghost use Rattle.std.specs.Prelude.{◌≡◌, ◌<◌, ◌≤◌, length, IfOk, OnErr};
 ghost use Rattle.pm_store.specs.Marks.{IsLater};
-ghost use Rattle.pm_unify.specs.Unified.{Answers, Solved};
+ghost use Rattle.pm_store.specs.Sound.{IsSound};
+ghost use Rattle.pm_unify.specs.Unified.{Answers};
+ghost use Rattle.pm_unify.specs.Inside.Steps.{Solved};
 
 use crate::occurrence::occurs;
 use crate::pairs::{Pairs, Step};
@@ -27,6 +30,7 @@ pub fn unify(alloc: Global, store: &mut Store, a: Addr, b: Addr) -> Result<bool,
 // Binds variables until both cells are equal in every solution, or until there is none in which
 // they are. The bindings stay in each case.
 fn solve(alloc: Global, store: &mut Store, a: Addr, b: Addr) -> Result<bool, AllocError>
+    requires sound { IsSound store.old }
     requires left { a < length store.old.cells }
     requires right { b < length store.old.cells }
     ensures later { IsLater store.old store.new }
@@ -34,8 +38,6 @@ fn solve(alloc: Global, store: &mut Store, a: Addr, b: Addr) -> Result<bool, All
 {
     let mut pairs = Pairs::new(alloc, a, b)?;
     loop {
-        // For the proof: the store is sound.
-        let _cells = store.len();
         match pairs.next_step(store)? {
             Step::Done => return Ok(true),
             Step::Clash => return Ok(false),
@@ -56,12 +58,14 @@ mod tests {
     use pm_store::{Cell, Resolver};
     use std::test::Fail;
 
-    // The symbols a, f and g.
+    // The symbols a, f, g and b.
     const A: u32 = 0;
 
     const F: u32 = 1;
 
     const G: u32 = 2;
+
+    const B: u32 = 3;
 
     fn is_free(store: &Store, a: Addr, v: Addr) -> bool
         requires { a < length store.now.cells }
@@ -172,7 +176,8 @@ mod tests {
 
     // f(X1, .., Xn) and f(g(X0, X0), .., g(Xm, Xm)), where m is n - 1.
     fn doublings(alloc: Global, store: &mut Store, times: usize) -> Result<(Addr, Addr), AllocError>
-        ensures { IfOk result (λ both. (both.0 < length store.new.cells) × (both.1 < length store.new.cells)) }
+        ensures { IfOk result (λ both. (both.0 < length store.new.cells)
+            × (both.1 < length store.new.cells)) }
     {
         let mut variables = Vec::new(alloc);
         let mut doubles = Vec::new(alloc);
@@ -200,6 +205,65 @@ mod tests {
         let right = resolver.resolve(&store, right, &mut table)?;
         assert_eq!(rt; left, right);
         assert_eq!(rt; table.len(), 30);
+        Ok(())
+    }
+
+    // f(X, g(X), a) and f(b, Y, Z).
+    fn two_terms(store: &mut Store) -> Result<(Addr, Addr), AllocError>
+        ensures { IfOk result (λ both. (both.0 < length store.new.cells)
+            × (both.1 < length store.new.cells)) }
+    {
+        let x = store.fresh()?;
+        let g_x = store.make(G, &[x])?;
+        let a = store.make(A, &[])?;
+        let left = store.make(F, &[x, g_x, a])?;
+        let b = store.make(B, &[])?;
+        let y = store.fresh()?;
+        let z = store.fresh()?;
+        let right = store.make(F, &[b, y, z])?;
+        Ok((left, right))
+    }
+
+    // Unifies two cells and takes back what came of it.
+    fn round(alloc: Global, store: &mut Store, a: Addr, b: Addr) -> Result<bool, AllocError>
+        requires left { a < length store.old.cells }
+        requires right { b < length store.old.cells }
+        ensures { store.new ≡ store.old }
+    {
+        let mark = store.mark();
+        let unified = unify(alloc, store, a, b);
+        store.undo(mark);
+        unified
+    }
+
+    // How often the two measured things are done: more of them, timed, measure the store and unification.
+    const ROUNDS: usize = 100_000;
+
+    const TURNS: usize = 10_000;
+
+    // The same pair in round after round: so a search spends its time.
+    #[test]
+    fn rounds_leave_the_store_as_it_was(rt: HostRuntime) -> Result<(), Fail> {
+        let mut store = Store::new(rt.alloc());
+        let (left, right) = two_terms(&mut store)?;
+        'rounds: for _ in 0..ROUNDS {
+            let unified = round(rt.alloc(), &mut store, left, right)?;
+            assert!(rt; unified);
+        }
+        assert_eq!(rt; store.len(), 8);
+        Ok(())
+    }
+
+    // New cells in each turn, which stay.
+    #[test]
+    fn turns_fill_a_store(rt: HostRuntime) -> Result<(), Fail> {
+        let mut store = Store::new(rt.alloc());
+        'turns: for _ in 0..TURNS {
+            let (left, right) = two_terms(&mut store)?;
+            let unified = unify(rt.alloc(), &mut store, left, right)?;
+            assert!(rt; unified);
+        }
+        assert_eq!(rt; store.len(), 8 * TURNS);
         Ok(())
     }
 

@@ -1,7 +1,7 @@
 use Rattle.std.proofs.Common.{ℕ, ◌≡◌, List, [], ◌∷◌, ◌++◌, length, refl, sym, ◌∙◌, ap, arith}
 use Rattle.std.proofs.lemmas.List.{append_assoc, append-nil}
 use Rattle.pm_store.specs.declared.resolver.Place.TheVariants.{Visit}
-use Rattle.pm_store.specs.Pending.{visits}
+use Rattle.pm_store.specs.Inside.Pending.{visits}
 use Rattle.pm_store.proofs.PendingLemmas.{visits-push}
 use Rattle.pm_store.proofs.resolver.push_visits.Goals as goal
 

@@ -1,5 +1,5 @@
 use Rattle.std.proofs.Common.{◌≡◌, ◌++◌}
-use Rattle.pm_store.specs.Pending.{visits}
+use Rattle.pm_store.specs.Inside.Pending.{visits}
 use Rattle.pm_store.proofs.resolver.push_visits.Given as goal
 
 abbrev pub invariant-cells : goal.invariant-cells

@@ -1,10 +1,11 @@
-use Rattle.std.proofs.Common.{◌∙◌, ◌++◌, sym, ap}
+use Rattle.std.proofs.Common.{◌∙◌, ◌++◌, refl, sym, ap}
 use Rattle.std.proofs.lemmas.Result.{on_ok_weaker}
 use Rattle.pm_store.proofs.ListLemmas.{same_from_test, other_from_test}
 use Rattle.pm_store.proofs.ResolvedLemmas.{has_value, some_of, none_of}
 use Rattle.pm_store.proofs.VisitLemmas.{proceeds-known, proceeds-variable, proceeds-bound, proceeds-opened}
-use Rattle.pm_store.specs.Resolved.{row_of, with_variables}
-use Rattle.pm_store.specs.Pending.{visits}
+use Rattle.pm_store.specs.Resolved.{Resolved, row_of, with_variables}
+use Rattle.pm_store.specs.Inside.Pending.{visits}
+use Rattle.pm_store.proofs.PartLemmas.{rows_same, places_opened}
 use Rattle.pm_store.proofs.resolver.Resolver.visit.Goals as goal
 
 pub returns-then-is_some-clause-ok : goal.returns-then-is_some-clause-ok
@@ -34,5 +35,22 @@ pub returns-in_ok-push-in-App-clause-ok : goal.returns-in_ok-push-in-App-clause-
 returns-in_ok-push-in-App-clause-ok c =
     on_ok_weaker c.push_visits.result
     (λ added. proceeds-opened _ _ _ _ _ _ c.in-App.symbol c.in-App.args.now c.requires.within c.in-App.ensures.shown.0 c.in-App.ensures.shown.1 c.in-App.ensures.tree
+    (added ∙ ap (λ ps. ps ++ visits c.in-App.args.now) c.in_ok-push-in-App.ensures.items))
+    c.push_visits.ensures
+
+pub returns-in_ok-note-in-Free-clause-rows : goal.returns-in_ok-note-in-Free-clause-rows
+returns-in_ok-note-in-Free-clause-rows c =
+    rows_same c.args.store.now c.args.cell c.in-Free.v c.args.into.now c.variable.new.into c.variable.new.self c.note.new.self c.in-Free.ensures.tree
+    (ap (λ (r : Resolved). r.free) c.in_ok-note-in-Free.ensures.ok) c.in_ok-row-in-Free.ensures.rows
+
+pub returns-else-ne-clause-rows : goal.returns-else-ne-clause-rows
+returns-else-ne-clause-rows c =
+    rows_same c.args.store.now c.args.cell c.in-Free.v c.args.into.now c.variable.new.into c.variable.new.self c.variable.new.self c.in-Free.ensures.tree
+    refl c.in_ok-row-in-Free.ensures.rows
+
+pub returns-in_ok-push-in-App-clause-places : goal.returns-in_ok-push-in-App-clause-places
+returns-in_ok-push-in-App-clause-places c =
+    on_ok_weaker c.push_visits.result
+    (λ added. places_opened c.args.store.now c.args.pending.now.items c.push_visits.new.pending.items c.args.cell c.in-App.symbol c.in-App.args.now c.in-App.ensures.tree
     (added ∙ ap (λ ps. ps ++ visits c.in-App.args.now) c.in_ok-push-in-App.ensures.items))
     c.push_visits.ensures

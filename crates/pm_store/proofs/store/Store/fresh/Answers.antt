@@ -1,19 +1,29 @@
-use Rattle.pm_store.specs.declared.store.Entry.TheVariants.{Variable}
-use Rattle.pm_store.proofs.SolutionLemmas.{fresh_solutions, fresh_any}
-use Rattle.pm_store.proofs.StoredLemmas.{sound_of, IsStored-added, grown, place_same}
+use Rattle.std.proofs.Common.{◌∙◌, ap}
+use Rattle.pm_store.specs.Entries.{Variable}
+use Rattle.pm_store.specs.Equations.{with_cell}
+use Rattle.pm_store.specs.Growth.{GainsVariable}
+use Rattle.pm_store.proofs.GrowthLemmas.{variable_free, variable_trees, variable_solutions, variable_any}
+use Rattle.pm_store.proofs.FlatLemmas.{sound_of, count_of, variable_flat, variable_equations}
 use Rattle.pm_store.proofs.store.Store.fresh.Goals as goal
 
-pub invariant_of-self : goal.invariant_of-self
-invariant_of-self c = IsStored-added c.add_cell.result _ _ _ _ _ Variable c.self.invariant tt c.add_cell.ensures.ok c.add_cell.ensures.err
+pub invariant_of-self-2 : goal.invariant_of-self-2
+invariant_of-self-2 c = variable_flat _ _ _ c.self.invariant _ c.in_ok-cell.ensures.ok
 
-pub returns-clause-solutions : goal.returns-clause-solutions
-returns-clause-solutions c =
-    fresh_solutions c.add_cell.result _ _
-    (grown c.add_cell.result _ _ _ _ c.self.inside.trail.items Variable _ c.self.view_is c.add_cell.ensures.ok)
-
-pub returns-clause-any_tree : goal.returns-clause-any_tree
-returns-clause-any_tree c =
-    let sound = sound_of _ _ _ _ c.self.view_is c.self.invariant in
-    fresh_any c.add_cell.result _ _ sound
-    (grown c.add_cell.result _ _ _ _ c.self.inside.trail.items Variable _ c.self.view_is c.add_cell.ensures.ok)
-    (place_same c.add_cell.result _ _ c.self.view_is c.add_cell.ensures.place)
+pub returns : goal.returns
+unfolding GainsVariable
+returns c =
+    let sound = sound_of _ _ _ c.args.self.now c.self.view_is c.self.invariant in
+    let place = c.in_ok-cell.ensures.place ∙ count_of c.self.inside.slots.items c.self.inside.args.items c.self.inside.trail.items c.args.self.now c.self.view_is in
+    let is = variable_equations _ _ c.self.inside.trail.items c.self.invariant _ c.in_ok-cell.ensures.ok ∙ ap (λ s. with_cell s Variable) c.self.view_is in
+    record {
+      place = place;
+      ok = is;
+      solutions = variable_solutions _ _ _ sound place is;
+      any_tree = variable_any _ _ _ sound place is;
+      gains = record {
+        free = variable_free _ _ _ sound place is;
+        trees = variable_trees _ _ _ sound place is;
+        sound = (variable_flat _ _ _ c.self.invariant _ c.in_ok-cell.ensures.ok).stored.sound;
+      };
+      err = tt;
+    }

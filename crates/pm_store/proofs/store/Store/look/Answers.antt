@@ -1,53 +1,35 @@
-use Rattle.std.proofs.Common.{refl, ◌∙◌, arith}
+use Rattle.std.proofs.Common.{◌∙◌, ap, length, arith}
+use Rattle.std.specs.Prelude.{Some}
+use Rattle.pm_store.specs.Inside.Slots.{entry_of, start_in, count_in}
 use Rattle.pm_store.proofs.TreeLemmas.{solved}
-use Rattle.pm_store.proofs.StoredLemmas.{sound_of}
-use Rattle.pm_store.proofs.LookLemmas.{read_target, place_within, target_follows, target_nearer, ends, end_solved, free_shown, application_solved, application_shown}
+use Rattle.pm_store.proofs.LookLemmas.{Ends, variable_in, read_cell, arguments_within, part_is, application_solved, application_shown}
 use Rattle.pm_store.proofs.store.Store.look.Goals as goal
 
-pub loop-target-init : goal.loop-target-init
-loop-target-init c = record { within = c.requires; same_end = refl }
+pub slice_bounds-result-end : goal.slice_bounds-result-end
+slice_bounds-result-end c =
+    let inside = arguments_within _ _ _ c.args.self.now c.self.view_is c.self.invariant _ _ c.end.view_is c.end-end.ensures.within _ c.index.ensures in
+    omega (arith, inside, ap start_in c.in-Made.is, ap count_in c.in-Made.is, ap length c.deref.ensures.value)
 
-pub index-requires : goal.index-requires
-index-requires c =
-    let inside = place_within _ _ _ _ c.self.view_is c.self.invariant _ _ c.at.view_is c.loop-target.invariant.within in
-    omega (arith, inside.1, c.self.inside.targets.ok.0)
-
-pub loop-target-smaller : goal.loop-target-smaller
-loop-target-smaller c =
-    let sound = sound_of _ _ _ _ c.self.view_is c.self.invariant in
-    let bound = read_target _ _ _ _ c.self.view_is c.self.invariant _ _ c.at.view_is c.loop-target.invariant.within _ c.index.ensures ∙ c.in-Some.is in
-    target_nearer _ _ _ sound bound
-
-pub loop-target-preserved : goal.loop-target-preserved
-loop-target-preserved c =
-    let sound = sound_of _ _ _ _ c.self.view_is c.self.invariant in
-    let bound = read_target _ _ _ _ c.self.view_is c.self.invariant _ _ c.at.view_is c.loop-target.invariant.within _ c.index.ensures ∙ c.in-Some.is in
-    let follows = target_follows _ _ _ _ sound c.loop-target.invariant.same_end bound in
-    record { within = follows.0; same_end = follows.1 }
-
-pub index-requires-2 : goal.index-requires-2
-index-requires-2 c =
-    let inside = place_within _ _ _ _ c.self.view_is c.self.invariant _ _ c.at.view_is c.loop-target.invariant.within in
-    omega (arith, inside.0, c.self.inside.cells.ok.0)
-
-pub returns-in-Variable : goal.returns-in-Variable
-returns-in-Variable c =
-    let sound = sound_of _ _ _ _ c.self.view_is c.self.invariant in
-    let found = ends _ _ _ _ _ _ _ _ _ _ c.self.view_is c.self.invariant c.at.view_is c.loop-target.invariant.within c.loop-target.invariant.same_end
-    c.index.ensures c.in_default.is c.index-2.ensures c.in-Variable.is in
+pub returns-in-Made : goal.returns-in-Made
+returns-in-Made c =
+    let stands = read_cell _ _ _ c.args.self.now c.self.view_is c.self.invariant _ _ c.end.view_is c.end-end.ensures.within _ c.index.ensures
+    ∙ ap (λ slot. Some (entry_of c.self.inside.args.items slot)) c.in-Made.is in
+    let found : Ends c.args.self.now c.args.a c.end-end.result _ = record { end = c.end-end.ensures.end; unbound = c.end-end.ensures.unbound; stands = stands } in
+    let same = part_is c.in-Made.start c.in-Made.count _ _ c.deref.ensures.value in
     record {
-      shown = free_shown _ _ _ found;
-      tree = end_solved _ _ _ _ found _ (solved _ sound);
-      solutions = end_solved _ _ _ _ found;
+      shown = application_shown _ _ _ _ _ _ c.end-end.ensures.sound found same;
+      tree = application_solved _ _ _ _ _ _ found same _ (solved _ c.end-end.ensures.sound);
+      solutions = application_solved _ _ _ _ _ _ found same;
+      sound = c.end-end.ensures.sound;
     }
 
-pub returns-in-Application : goal.returns-in-Application
-returns-in-Application c =
-    let sound = sound_of _ _ _ _ c.self.view_is c.self.invariant in
-    let found = ends _ _ _ _ _ _ _ _ _ _ c.self.view_is c.self.invariant c.at.view_is c.loop-target.invariant.within c.loop-target.invariant.same_end
-    c.index.ensures c.in_default.is c.index-2.ensures c.in-Application.is in
+pub returns-in_default : goal.returns-in_default
+returns-in_default c =
+    let stands = read_cell _ _ _ c.args.self.now c.self.view_is c.self.invariant _ _ c.end.view_is c.end-end.ensures.within _ c.index.ensures
+    ∙ ap Some (variable_in c.self.inside.args.items _ c.in_default.not-Made) in
     record {
-      shown = application_shown _ _ _ _ _ _ sound found c.as_slice.ensures;
-      tree = application_solved _ _ _ _ _ _ found c.as_slice.ensures _ (solved _ sound);
-      solutions = application_solved _ _ _ _ _ _ found c.as_slice.ensures;
+      shown = (c.end-end.ensures.end, record { variable = stands; unbound = c.end-end.ensures.unbound });
+      tree = c.end-end.ensures.solutions _ (solved _ c.end-end.ensures.sound);
+      solutions = c.end-end.ensures.solutions;
+      sound = c.end-end.ensures.sound;
     }

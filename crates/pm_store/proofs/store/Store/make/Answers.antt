@@ -1,17 +1,34 @@
-use Rattle.pm_store.specs.declared.store.Entry.TheVariants.{Application}
-use Rattle.pm_store.proofs.SolutionLemmas.{make_solutions}
-use Rattle.pm_store.proofs.StoredLemmas.{IsStored-added, grown, args_below, grown_same, place_same}
+use Rattle.std.proofs.Common.{sym, ◌∙◌, ap, subst}
+use Rattle.pm_store.specs.Entries.{Application}
+use Rattle.pm_store.specs.Equations.{with_cell}
+use Rattle.pm_store.specs.Sound.{IsSound}
+use Rattle.pm_store.specs.Growth.{GainsApplication}
+use Rattle.pm_store.proofs.SolutionLemmas.{IsSound-with_cell}
+use Rattle.pm_store.proofs.GrowthLemmas.{application_solutions, application_extends, application_tree, application_trees}
+use Rattle.pm_store.proofs.FlatLemmas.{sound_of, count_of, args_below, application_flat, application_equations}
 use Rattle.pm_store.proofs.store.Store.make.Goals as goal
 
-pub invariant_of-self : goal.invariant_of-self
-invariant_of-self c =
-    IsStored-added c.add_cell.result _ _ _ _ _ (Application c.args.symbol c.in_ok-args.args) c.self.invariant
-    (args_below _ c.self.inside.cells.items c.self.inside.targets.items c.self.inside.trail.items _ c.args.args.now c.self.view_is c.requires c.in_ok-args.ensures)
-    c.add_cell.ensures.ok c.add_cell.ensures.err
+pub invariant_of-self-2 : goal.invariant_of-self-2
+invariant_of-self-2 c =
+    application_flat _ _ _ c.self.invariant c.args.symbol _ _ _ c.in_ok-cell.ensures.ok c.in_ok-cell.ensures.args
+    (args_below c.self.inside.slots.items c.self.inside.args.items c.self.inside.trail.items c.args.self.now c.self.view_is c.args.args.now c.requires)
 
-pub returns-clause-solutions : goal.returns-clause-solutions
-returns-clause-solutions c =
-    make_solutions c.add_cell.result c.args.self.now _ c.args.symbol c.args.args.now
-    (grown_same c.add_cell.result _ _ c.args.symbol _ _ c.in_ok-args.ensures
-    (grown c.add_cell.result _ _ _ _ c.self.inside.trail.items (Application c.args.symbol c.in_ok-args.args) _ c.self.view_is c.add_cell.ensures.ok))
-    (place_same c.add_cell.result _ _ c.self.view_is c.add_cell.ensures.place)
+pub returns : goal.returns
+unfolding GainsApplication
+returns c =
+    let sound = sound_of _ _ _ c.args.self.now c.self.view_is c.self.invariant in
+    let place = c.in_ok-cell.ensures.place ∙ count_of c.self.inside.slots.items c.self.inside.args.items c.self.inside.trail.items c.args.self.now c.self.view_is in
+    let is = application_equations _ _ c.self.inside.trail.items c.self.invariant c.args.symbol c.args.args.now _ _ c.in_ok-cell.ensures.ok c.in_ok-cell.ensures.args
+    ∙ ap (λ s. with_cell s (Application c.args.symbol c.args.args.now)) c.self.view_is in
+    record {
+      place = place;
+      ok = is;
+      solutions = application_solutions _ _ _ sound place c.args.symbol c.args.args.now c.requires is;
+      gains = record {
+        tree = application_tree _ _ _ sound place c.args.symbol c.args.args.now c.requires is;
+        solutions = application_extends _ _ _ sound place c.args.symbol c.args.args.now c.requires is;
+        trees = application_trees _ _ _ sound place c.args.symbol c.args.args.now c.requires is;
+        sound = subst IsSound (sym is) (IsSound-with_cell c.args.self.now (Application c.args.symbol c.args.args.now) sound c.requires);
+      };
+      err = tt;
+    }

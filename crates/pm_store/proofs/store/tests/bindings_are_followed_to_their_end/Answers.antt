@@ -17,6 +17,6 @@ is_free-requires-2 g c =
     let second = subst (λ (s : Equations). IsLater c.make.new.self s) (sym c.in_ok-t.ensures.ok) ((growth_is_later c.make.new.self).cell _) in
     let third = subst (λ (s : Equations). IsLater c.make-2.new.self s) (sym c.in_ok-bind-2.ensures.ok) ((growth_is_later c.make-2.new.self).binding _ _) in
     let restored : c.undo.new.self ≡ c.bind.new.self =
-    c.undo.ensures _ (later_is_transitive _ _ _ first (later_is_transitive _ _ _ second third)) c.mark-mark.ensures.counts in
+    c.undo.ensures.before _ (later_is_transitive _ _ _ first (later_is_transitive _ _ _ second third)) c.mark-mark.ensures.counts in
     let within : c.in_ok-x.x < length c.bind.new.self.cells = search rules in
     subst (λ (s : Equations). c.in_ok-x.x < length s.cells) (sym restored) within

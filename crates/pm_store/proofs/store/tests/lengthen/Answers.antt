@@ -1,68 +1,51 @@
-use Rattle.std.proofs.Common.{◌≡◌, ℕ, ◌<◌, ◌≤◌, [], ◌∷◌, Some, length, sym, ◌∙◌, ap, subst, arith}
+use Rattle.std.proofs.Common.{◌≡◌, ℕ, ◌<◌, Some, length, sym, ◌∙◌, ap, subst, arith}
 use Rattle.std.proofs.lemmas.List.{length_push}
 use Rattle.std.proofs.lemmas.Option.{slice_get_within}
-use Rattle.pm_logic.specs.Term.{Term, var}
-use Rattle.pm_store.specs.declared.store.Entry.TheVariants.{Variable}
+use Rattle.pm_logic.specs.Term.{Term}
+use Rattle.pm_store.specs.Entries.{Variable}
 use Rattle.pm_store.specs.Equations.{Equations, with_cell, with_binding, target_of, IsFree}
-use Rattle.pm_store.specs.Trees.{tree, Occurs}
+use Rattle.pm_store.specs.Trees.{Occurs}
 use Rattle.pm_store.specs.Sound.{CanBind, IsSound}
-use Rattle.pm_store.proofs.ListLemmas.{if_other, slice_get-append, slice_get-last}
+use Rattle.pm_store.specs.Growth.{GainsVariable}
+use Rattle.pm_store.proofs.ListLemmas.{if_other}
 use Rattle.pm_store.proofs.TreeLemmas.{tree-variable}
-use Rattle.pm_store.proofs.SolutionLemmas.{IsSound-with_cell}
-use Rattle.pm_store.proofs.StoredLemmas.{unbound_beyond}
+use Rattle.pm_store.proofs.GrowthLemmas.{free_kept}
 use Rattle.pm_store.proofs.store.tests.lengthen.Goals as goal
 
-apart : (s : Equations) (v : ℕ) → IsFree s v → v ≡ length s.cells → ⊥
-apart s v free same = absurd (below v (length s.cells) (slice_get_within s.cells v Variable free.variable) same)
+apart : (s : Equations) (v w : ℕ) → IsFree s v → w ≡ length s.cells → v ≡ w → ⊥
+apart s v w free place same = absurd (below v w (length s.cells) (slice_get_within s.cells v Variable free.variable) place same)
   where
-    below : (m n : ℕ) → m < n → m ≡ n → ⊥
-    below m n lt e = omega arith
-
--- a new variable is free
-new_is_free : (s : Equations) → IsSound s → IsFree (with_cell s Variable) (length s.cells)
-new_is_free s sound = record {
-  variable = slice_get-last s.cells Variable;
-  unbound = unbound_beyond s.cells s.bindings (length s.cells) sound.made (same (length s.cells));
-}
-  where
-    same : (n : ℕ) → n ≤ n
-    same n = omega arith
+    below : (m n k : ℕ) → m < k → n ≡ k → m ≡ n → ⊥
+    below m n k lt is e = omega arith
 
 -- a free variable can be bound to a new one, which is then free
-binds : (s : Equations) (v : ℕ) → IsSound s → IsFree s v → CanBind (with_cell s Variable) v (length s.cells)
-binds s v sound free =
-    let new : Equations = with_cell s Variable in
-    let itself : tree new (length s.cells) ≡ var (length s.cells) =
-    tree-variable new (length s.cells) (IsSound-with_cell s Variable sound tt) (new_is_free s sound) in
-    record {
-      free = record { variable = slice_get-append s.cells (Variable ∷ []) v Variable free.variable; unbound = free.unbound };
-      within = omega (arith, length_push s.cells Variable);
-      apart = λ occurs. apart s v free (subst (λ (u : Term). Occurs v u) itself occurs);
-    }
+binds : (old new : Equations) (v w : ℕ) → new ≡ with_cell old Variable → w ≡ length old.cells → IsSound new → IsFree new w → IsFree old v → CanBind new v w
+binds old new v w is place sound free was = record {
+  free = subst (λ (s : Equations). IsFree s v) (sym is) (free_kept old Variable v was);
+  within = slice_get_within new.cells w Variable free.variable;
+  apart = λ occurs. apart old v w was place (subst (λ (u : Term). Occurs v u) (tree-variable new w sound free) occurs);
+}
 
-stays_free : (s : Equations) (v : ℕ) → IsSound s → IsFree s v → IsFree (with_binding (with_cell s Variable) v (length s.cells)) (length s.cells)
-stays_free s v sound free =
-    let new = new_is_free s sound in
-    record {
-      variable = new.variable;
-      unbound = if_other v (length s.cells) (Some (length s.cells)) (target_of s.bindings (length s.cells)) (apart s v free) ∙ new.unbound;
-    }
+stays_free : (old new after : Equations) (v w : ℕ) → after ≡ with_binding new v w → w ≡ length old.cells → IsFree new w → IsFree old v → IsFree after w
+stays_free old new after v w is place free was =
+    subst (λ (s : Equations). IsFree s w) (sym is) (record {
+      variable = free.variable;
+      unbound = if_other v w (Some w) (target_of new.bindings w) (apart old v w was place) ∙ free.unbound;
+    })
 
 pub bind-requires : goal.bind-requires
+unfolding GainsVariable
 bind-requires c =
-    subst (λ (s : Equations). CanBind s c.links.last c.in_ok-next.next) (sym c.in_ok-next.ensures.ok)
-    (subst (λ (n : ℕ). CanBind (with_cell c.links.store Variable) c.links.last n) (sym c.in_ok-next.ensures.place)
-    (binds c.links.store c.links.last c.len-cells.ensures.sound c.links.invariant.free))
+    binds c.links.store c.fresh.new.self c.links.last c.in_ok-next.next c.in_ok-next.ensures.ok c.in_ok-next.ensures.place
+    c.in_ok-next.ensures.gains.sound c.in_ok-next.ensures.gains.free c.links.invariant.free
 
 pub links-preserved : goal.links-preserved
+unfolding GainsVariable
 links-preserved c =
-    let is : c.bind.new.self ≡ with_binding (with_cell c.links.store Variable) c.links.last c.in_ok-next.next =
-    c.in_ok-bind.ensures.ok ∙ ap (λ s. with_binding s c.links.last c.in_ok-next.next) c.in_ok-next.ensures.ok in
-    let more = ap (λ (s : Equations). length s.cells) is in
+    let more = ap (λ (s : Equations). length s.cells) (c.in_ok-bind.ensures.ok ∙ ap (λ s. with_binding s c.links.last c.in_ok-next.next) c.in_ok-next.ensures.ok) in
     record {
-      free = subst (λ (s : Equations). IsFree s c.in_ok-next.next) (sym is)
-          (subst (λ (n : ℕ). IsFree (with_binding (with_cell c.links.store Variable) c.links.last n) n) (sym c.in_ok-next.ensures.place)
-          (stays_free c.links.store c.links.last c.len-cells.ensures.sound c.links.invariant.free));
+      free = stays_free c.links.store c.fresh.new.self c.bind.new.self c.links.last c.in_ok-next.next c.in_ok-bind.ensures.ok c.in_ok-next.ensures.place
+          c.in_ok-next.ensures.gains.free c.links.invariant.free;
       grows = omega (arith, more, c.links.invariant.grows, length_push c.links.store.cells Variable);
     }
 

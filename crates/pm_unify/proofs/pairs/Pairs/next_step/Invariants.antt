@@ -1,7 +1,7 @@
 use Rattle.std.specs.Prelude.{⊤}
 use Rattle.pm_store.specs.Trees.{tree}
-use Rattle.pm_unify.specs.Pairs.{pair_size}
-use Rattle.pm_unify.specs.Steps.{Leaves}
+use Rattle.pm_unify.specs.Inside.Pairs.{pair_size}
+use Rattle.pm_unify.specs.Inside.Steps.{Leaves}
 use Rattle.pm_unify.proofs.SupportLemmas.{total}
 use Rattle.pm_unify.proofs.pairs.Pairs.next_step.Given as goal
 

@@ -1,12 +1,12 @@
 -- The places that a resolver has yet to come to, the next of them last.
-use Rattle.std.specs.Prelude.{◌≡◌, ◌≢◌, ℕ, ◌+◌, ◌<◌, ◌⊎◌, List, [], ◌∷◌, ◌++◌, Some, None, All, Contains, length, slice_get}
+use Rattle.std.specs.Prelude.{◌≡◌, ◌≢◌, ℕ, ◌+◌, ◌<◌, ◌≤◌, ◌⊎◌, List, [], ◌∷◌, ◌++◌, Some, None, All, Contains, length, slice_get}
 use Rattle.pm_logic.specs.Term.{Term}
-use Rattle.pm_store.specs.declared.store.Entry.TheVariants.{Application}
+use Rattle.pm_store.specs.Entries.{Application}
 use Rattle.pm_store.specs.declared.resolver.Place.{Place}
 use Rattle.pm_store.specs.declared.resolver.Place.TheVariants.{Visit, Build}
 use Rattle.pm_store.specs.Equations.{Equations, end_of}
-use Rattle.pm_store.specs.Trees.{tree, size}
-use Rattle.pm_store.specs.Resolved.{Resolved, row_of, with_variables, IsResolved}
+use Rattle.pm_store.specs.Trees.{tree, size, IsPart}
+use Rattle.pm_store.specs.Resolved.{Resolved, row_of, with_variables, HasRow, IsResolved}
 
 -- an upper bound of the places that come of this one: a visited cell may have to be built too
 abbrev pub place_work : Equations → Place → ℕ
@@ -41,7 +41,8 @@ WillHaveRow r ps c = (row_of r c ≢ None) ⊎ ((p : Place) × Contains ps p × 
 abbrev pub IsReadyAt : Equations → Resolved → Place → List Place → Type 0
 IsReadyAt s r (Visit c) ps = c < length s.cells
 IsReadyAt s r (Build c) ps = (c < length s.cells) × (symbol : ℕ) × (args : List ℕ)
-    × (slice_get s.cells (end_of s.bindings c) ≡ Some (Application symbol args)) × All (WillHaveRow r ps) args
+    × (slice_get s.cells (end_of s.bindings c) ≡ Some (Application symbol args))
+    × All (WillHaveRow r ps) args
 
 abbrev pub AreReady : Equations → Resolved → List Place → Type 0
 AreReady s r [] = Unit {0}
@@ -58,5 +59,22 @@ pub record Comes (s : Equations) (a : ℕ) (first r : Resolved) (table : List Te
 -- a place was dealt with, and others took its stead
 abbrev pub Proceeds : Equations → Place → Resolved → List Term → List Place → Resolved → List Term → List Place → Type 0
 Proceeds s p r table ps new grown left =
-    ((a : ℕ) (first : Resolved) → Comes s a first r table (ps ++ p ∷ []) → Comes s a first new grown left)
+    ((a : ℕ) (first : Resolved) → Comes s a first r table (ps ++ p ∷ [])
+    → Comes s a first new grown left)
     × (work s left < work s (ps ++ p ∷ []))
+
+-- each row that was added is one of this cell
+abbrev pub AddsRowsOf : Equations → ℕ → List Term → Resolved → List Term → Type 0
+AddsRowsOf s cell table r grown = (row : ℕ) → length table ≤ row → row < length grown
+    → HasRow s r.free grown cell row
+
+-- each place that was added is one of a part of this cell's tree
+abbrev pub AddsPlacesOf : Equations → ℕ → List Place → List Place → Type 0
+AddsPlacesOf s cell ps left = (p : Place) → Contains left p → Contains ps p
+    ⊎ IsPart (tree s (cell_of p)) (tree s cell)
+
+-- the rows that were added, and what is pending, are of parts of a cell's tree
+pub record ComesOfParts (s : Equations) (a : ℕ) (table : List Term) (r : Resolved) (grown : List Term) (ps : List Place) : Type 0 where
+  pub rows : (row : ℕ) → length table ≤ row → row < length grown → (cell : ℕ)
+      × HasRow s r.free grown cell row × IsPart (tree s cell) (tree s a)
+  pub places : (p : Place) → Contains ps p → IsPart (tree s (cell_of p)) (tree s a)

@@ -1,7 +1,7 @@
 use Rattle.std.proofs.Common.{◌≡◌, ◌<◌, length}
 use Rattle.pm_store.specs.Equations.{end_of}
 use Rattle.pm_store.proofs.BindingLemmas.{steps}
-use Rattle.pm_store.proofs.store.Store.look.Given as goal
+use Rattle.pm_store.proofs.store.Store.end.Given as goal
 
 abbrev pub invariant-loop-target : goal.invariant-loop-target
 invariant-loop-target l = record {

@@ -1,10 +1,10 @@
 -- What is known of things that were gone into once, from those that are pending.
-use Rattle.std.specs.Prelude.{◌≡◌, ℕ, suc, ◌<◌, Bool, true, false, List, [], ◌∷◌, ◌++◌, All, Contains}
+use Rattle.std.specs.Prelude.{◌≡◌, ℕ, suc, ◌<◌, ◌⊎◌, Bool, true, false, List, [], ◌∷◌, ◌++◌, All, Contains}
 
 module _ {A : Type 0} where
-  -- a thing is noted as the last one, where it is new
+  -- a thing that counts as new may be noted, as the last one; any other was noted before
   abbrev pub Notes : List A → List A → A → Bool → Type 0
-  Notes before after x true = after ≡ before ++ x ∷ []
+  Notes before after x true = (after ≡ before) ⊎ (after ≡ before ++ x ∷ [])
   Notes before after x false = (after ≡ before) × Contains before x
 
   -- those of size below a number have a property
@@ -13,5 +13,6 @@ module _ {A : Type 0} where
 
   -- each thing gone into has the property if those smaller than it, pending or gone into, have it
   abbrev pub IsSupported : (A → ℕ) → (A → Type 0) → List A → List A → Type 0
-  IsSupported size_of holds pending entered = (n : ℕ) → HoldBelow size_of holds n pending → HoldBelow size_of holds n entered
+  IsSupported size_of holds pending entered = (n : ℕ) → HoldBelow size_of holds n pending
+      → HoldBelow size_of holds n entered
       → HoldBelow size_of holds (suc n) entered
