@@ -8,9 +8,9 @@ use Rattle.pm_calculus.specs.Skeleton.{face_of, Skeleton, unclosed, closed, exte
 use Rattle.pm_calculus.specs.Alternatives.{alternatives, after_choice}
 use Rattle.pm_calculus.specs.Choices.{at_depth}
 
--- The skeleton is part of the tree. An unclosed leaf may be any node with its face, a closed one is a leaf
--- that is complementary to the ancestor that closes it, and what was extended is an inner node with the
--- same clause.
+-- The skeleton is part of the tree. An unclosed leaf may be any node with its face, a closed one is
+-- a leaf that is complementary to the ancestor that closes it, and what was extended is an inner
+-- node with the same clause.
 abbrev mutual
   pub AgreesBelow : List Literal → Skeleton → Node → Type 0
   AgreesBelow above (unclosed face) node = face ≡ face_of (literal_on node)
@@ -31,7 +31,8 @@ abbrev pub Agrees : State → Tableau → Type 0
 Agrees empty tableau = Unit {0}
 Agrees (rooted root trees) tableau = (root ≡ tableau.root) × AgreeAmong [] trees tableau.children
 
--- the alternative of this number agrees with the tree: after its step what is built is still part of it
+-- the alternative of this number agrees with the tree: after its step what is built is still part
+-- of it
 abbrev pub AlternativeAgrees : Level → Tableau → State → ℕ → Type 0
 AlternativeAgrees level tableau state choice =
     IsSomeAnd (slice_get (alternatives level state) choice)
@@ -43,8 +44,8 @@ pub record IsLeastAlternative (level : Level) (tableau : Tableau) (state : State
   pub agrees : AlternativeAgrees level tableau state choice
   pub least : (other : ℕ) → other < choice → ¬ AlternativeAgrees level tableau state other
 
--- From a state on each choice is the least alternative that agrees with the tree, up to where no leaf is
--- unclosed.
+-- From a state on each choice is the least alternative that agrees with the tree, up to where no
+-- leaf is unclosed.
 abbrev pub AreLeast : Level → Tableau → Option State → List ℕ → Type 0
 AreLeast level tableau None choices = ⊥
 AreLeast level tableau (Some state) [] = is_closed state ≡ true
@@ -52,9 +53,9 @@ AreLeast level tableau (Some state) (choice ∷ choices) =
     IsLeastAlternative level tableau state choice
     × AreLeast level tableau (after_choice level (Some state) choice) choices
 
--- The least list that the tableau follows: at each place the least alternative that agrees with its tree.
--- Only extensions agree with an inner node, and a leaf that no extension closed is closed by the least reduction that
--- agrees.
+-- The least list that the tableau follows: at each place the least alternative that agrees with its
+-- tree. Only extensions agree with an inner node, and a leaf that no extension closed is closed by
+-- the least reduction that agrees.
 abbrev pub IsLeastList : Level → Tableau → List ℕ → Type 0
 IsLeastList level tableau choices =
     (0 < length choices) × AreLeast level tableau (Some empty) choices

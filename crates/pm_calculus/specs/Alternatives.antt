@@ -44,8 +44,8 @@ extension_by head = extend head.clause head.literal
 abbrev pub extensions : Face → List Clause → List Step
 extensions face clauses = map extension_by (heads (opposite face) clauses)
 
--- What has to be below the bound for an extension of a leaf: the leaf's depth, or the number of clause
--- instances so far.
+-- What has to be below the bound for an extension of a leaf: the leaf's depth, or the number of
+-- clause instances so far.
 abbrev pub used : BoundKind → State → Subgoal → ℕ
 used Depth state leaf = depth_of leaf
 used Inferences state leaf = instances_built state
@@ -97,14 +97,15 @@ pub record IsHead (clauses : List Clause) (face : Face) (clause literal : ℕ) :
   pub has : slice_get its_clause.literals literal ≡ Some its_literal
   pub shows : has_face face its_literal ≡ true
 
--- A step may be taken at the selected leaf: an extension by a literal with the opposite face, or a reduction with
--- an ancestor.
+-- A step may be taken at the selected leaf: an extension by a literal with the opposite face, or a
+-- reduction with an ancestor.
 abbrev pub IsStepAt : List Clause → Subgoal → Step → Type 0
 IsStepAt clauses leaf (start clause) = ⊥
 IsStepAt clauses leaf (extend clause literal) = IsHead clauses (opposite leaf.face) clause literal
 IsStepAt clauses leaf (reduce ancestor) = (1 ≤ ancestor) × (ancestor < depth_of leaf)
 
--- a step may be taken at a state: a start with a clause at the beginning, and any other at the selected leaf
+-- a step may be taken at a state: a start with a clause at the beginning, and any other at the
+-- selected leaf
 abbrev pub MayTake : List Clause → State → Step → Type 0
 MayTake clauses empty (start clause) = clause < length clauses
 MayTake clauses empty step = ⊥

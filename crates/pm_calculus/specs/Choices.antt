@@ -1,4 +1,5 @@
--- Labellings, and what they say of a list of choices: reached, complete, width, the general tableau.
+-- Labellings, and what they say of a list of choices: reached, complete, width, the general
+-- tableau.
 use Rattle.std.specs.Prelude.{◌≡◌, ℕ, zero, suc, ◌<◌, true, List, [], ◌∷◌, ◌++◌, length, Option, Some, None, IsSomeAnd, ⊤, slice_get}
 use Rattle.std.specs.Option.{option_map_or}
 use Rattle.pm_logic.specs.declared.problem.Class.TheVariants.{Plain}
@@ -19,8 +20,8 @@ abbrev pub at_depth : List Literal → ℕ → Option Literal
 at_depth above zero = None
 at_depth above (suc n) = slice_get above n
 
--- The node has the tree and the clause indices of the skeleton, and each leaf that the skeleton closes is
--- complementary to the ancestor that closes it.
+-- The node has the tree and the clause indices of the skeleton, and each leaf that the skeleton
+-- closes is complementary to the ancestor that closes it.
 abbrev mutual
   pub FitsBelow : List Literal → Skeleton → Node → Type 0
   FitsBelow above (unclosed face) (leaf literal) = ⊤
@@ -41,8 +42,8 @@ abbrev pub Fits : State → Tableau → Type 0
 Fits empty tableau = ⊥
 Fits (rooted root trees) tableau = (root ≡ tableau.root) × FitAmong [] trees tableau.children
 
--- a labelling of what was built: literals for its nodes, with which each family is an instance of its
--- clause and each closed leaf is complementary to the ancestor that closes it
+-- a labelling of what was built: literals for its nodes, with which each family is an instance of
+-- its clause and each closed leaf is complementary to the ancestor that closes it
 pub record IsLabelling (clauses : List Clause) (state : State) (tableau : Tableau) : Type 0 where
   pub fits : Fits state tableau
   pub over : IsOver clauses tableau
@@ -63,8 +64,8 @@ pub record IsShownBy (node : SkeletonNode) (entry : Entry) : Type 0 where
   pub face : node.face ≡ face_of entry.literal
   pub clause : node.clause ≡ clause_in entry.kind
 
--- some labelling is within the level's bound and, where the class is regular, has no literal twice on a
--- branch, a closed branch included
+-- some labelling is within the level's bound and, where the class is regular, has no literal twice
+-- on a branch, a closed branch included
 pub record HasLabelling (level : Level) (state : State) : Type 0 where
   pub tableau : Tableau
   pub labelling : IsLabelling level.problem.clauses state tableau
@@ -96,8 +97,9 @@ abbrev pub IsLabellingOf : Level → List ℕ → Tableau → Type 0
 IsLabellingOf level choices tableau =
     IsSomeAnd (state_after level choices) (λ state. IsLabelling level.problem.clauses state tableau)
 
--- At some level the choices build the tableau's tree with its clause indices, leave no leaf unclosed, and
--- close each leaf by an ancestor that is complementary to it in the tableau. The class plays no part.
+-- At some level the choices build the tableau's tree with its clause indices, leave no leaf
+-- unclosed, and close each leaf by an ancestor that is complementary to it in the tableau. The
+-- class plays no part.
 pub record Follows (problem : Problem) (rule : Start) (choices : List ℕ)
     (tableau : Tableau) : Type 0 where
   pub kind : BoundKind

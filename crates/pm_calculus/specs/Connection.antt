@@ -1,4 +1,5 @@
--- Closed, connected and regular tableaux, and the class of a level. Nothing here knows of steps or of a search.
+-- Closed, connected and regular tableaux, and the class of a level. Nothing here knows of steps or
+-- of a search.
 use Rattle.std.specs.Prelude.{ℕ, ◌≤◌, ◌⊎◌, List, [], ◌∷◌, ◌++◌, All, Any, Contains, IsSomeAnd, ⊤, slice_get}
 use Rattle.pm_logic.specs.declared.problem.Class.{Class}
 use Rattle.pm_logic.specs.declared.problem.Class.TheVariants.{Plain, Regular}
@@ -120,8 +121,8 @@ pub record IsInClass (level : Level) (tableau : Tableau) : Type 0 where
   pub regular : IsRegularFor level.class tableau
   pub within : IsWithinBound level.kind level.bound tableau
 
--- The tableau is over these symbols: each predicate and each symbol of its terms is one of them, of the
--- right kind and with the right number of arguments. Its variables are below some number.
+-- The tableau is over these symbols: each predicate and each symbol of its terms is one of them, of
+-- the right kind and with the right number of arguments. Its variables are below some number.
 pub record IsOverSymbols (symbols : List Symbol) (tableau : Tableau) : Type 0 where
   pub vars : ℕ
   pub literals : All (λ entry. IsLiteralOver symbols vars entry.literal) (preorder tableau)

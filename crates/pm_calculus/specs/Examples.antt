@@ -75,7 +75,8 @@ steps =
     ∷ clause 0 (fails p (f (f a) ∷ []) ∷ [])
     ∷ []
 
--- the depth counts literals, the deepest leaf's too; a leaf as deep as the bound has reductions alone
+-- the depth counts literals, the deepest leaf's too; a leaf as deep as the bound has reductions
+-- alone
 abbrev pub DepthExample : Type 0
 DepthExample =
     IsComplete (level steps Plain 4) (0 ∷ 1 ∷ 2 ∷ 2 ∷ [])
@@ -99,7 +100,8 @@ tautology =
     ∷ clause 0 (fails p (a ∷ []) ∷ [])
     ∷ []
 
--- a leaf counts for regularity, also one that isn't closed yet: it would have the literal of its parent
+-- a leaf counts for regularity, also one that isn't closed yet: it would have the literal of its
+-- parent
 abbrev pub LeafExample : Type 0
 LeafExample =
     IsReached (level tautology Plain 2) (0 ∷ 0 ∷ [])
@@ -172,7 +174,8 @@ circle =
     ∷ ground (holds q [] ∷ fails p [] ∷ [])
     ∷ []
 
--- a literal is compared with all above it, and not with its parent alone: ~p stands below ~q below ~p
+-- a literal is compared with all above it, and not with its parent alone: ~p stands below ~q below
+-- ~p
 abbrev pub AncestorExample : Type 0
 AncestorExample =
     IsReached (level circle Plain 3) (0 ∷ 0 ∷ 1 ∷ [])
@@ -245,7 +248,8 @@ abbrev pub fork : List Clause
 fork =
     ground (holds p [] ∷ []) ∷ ground (holds q [] ∷ []) ∷ ground (fails p [] ∷ fails q [] ∷ []) ∷ []
 
--- the root counts as a clause instance, a leaf doesn't; the empty clause alone has one instance and depth 0
+-- the root counts as a clause instance, a leaf doesn't; the empty clause alone has one instance and
+-- depth 0
 abbrev pub InstancesExample : Type 0
 InstancesExample =
     IsComplete (counted_level fork 3) (0 ∷ 0 ∷ 0 ∷ [])

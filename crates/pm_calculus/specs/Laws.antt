@@ -30,7 +30,8 @@ CompleteListsEnd =
     (level : Level) (choices : List ℕ) → IsComplete level choices
     → IsReached level choices × (choices ≢ []) × (width level choices ≡ 0)
 
--- a labelling of what a complete list builds is in the class of the level, if it is as regular as the class asks
+-- a labelling of what a complete list builds is in the class of the level, if it is as regular as
+-- the class asks
 abbrev pub CompleteListsGiveTableaux : Type 0
 CompleteListsGiveTableaux =
     (level : Level) (choices : List ℕ) (tableau : Tableau) → IsComplete level choices
@@ -69,7 +70,8 @@ ListsAndTableauxAgree =
     → ((choices : List ℕ) × IsComplete level choices)
     ↔ ((tableau : Tableau) × IsInClass level tableau)
 
--- an instance of an instance is an instance: of a tableau, and of a clause whose variables are its own
+-- an instance of an instance is an instance: of a tableau, and of a clause whose variables are its
+-- own
 abbrev pub InstancesCompose : Type 0
 InstancesCompose =
     (first second third : Tableau) → IsInstanceOf second first → IsInstanceOf third second
@@ -111,14 +113,16 @@ StepsMayBeTaken =
     (level : Level) (choices : List ℕ) (steps : List Step)
     → steps_of level choices ≡ Some steps → MayTakeAll level.problem.clauses empty steps
 
--- what a list builds has, node by node in pre-order, the depths, faces and clauses of each labelling
+-- what a list builds has, node by node in pre-order, the depths, faces and clauses of each
+-- labelling
 abbrev pub LabellingsShowNodes : Type 0
 LabellingsShowNodes =
     (level : Level) (choices : List ℕ) (state : State) (tableau : Tableau)
     → state_after level choices ≡ Some state → IsLabelling level.problem.clauses state tableau
     → AllZip IsShownBy (nodes_of state) (preorder tableau)
 
--- a list builds the same at each level at which it builds anything: neither the class nor the bound matters
+-- a list builds the same at each level at which it builds anything: neither the class nor the bound
+-- matters
 abbrev pub StatesAgree : Type 0
 StatesAgree =
     (level other : Level) (choices : List ℕ) (state second : State)

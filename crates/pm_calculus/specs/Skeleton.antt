@@ -1,4 +1,5 @@
--- The tree that steps build, with no terms: its nodes, the selected leaf, and what a step makes of it.
+-- The tree that steps build, with no terms: its nodes, the selected leaf, and what a step makes of
+-- it.
 use Rattle.std.specs.Prelude.{ℕ, zero, suc, ◌+◌, Bool, true, false, cond, ◌&&◌, List, [], ◌∷◌, ◌++◌, length, fold, Option, Some, None, slice_get}
 use Rattle.std.specs.Option.{option_map_or}
 use Rattle.pm_logic.specs.Problem.{Literal, Clause}
@@ -11,8 +12,8 @@ pub record Face : Type 0 where
 abbrev pub face_of : Literal → Face
 face_of literal = record { positive = literal.positive; predicate = literal.predicate }
 
--- Each node has the face of its literal. A leaf is unclosed, or closed by the ancestor at a depth. A node
--- that was extended has a clause, and children.
+-- Each node has the face of its literal. A leaf is unclosed, or closed by the ancestor at a depth.
+-- A node that was extended has a clause, and children.
 mutual
   pub data Skeleton : Type 0 where
     unclosed : Face → Skeleton
@@ -117,7 +118,8 @@ leaves_but (suc literal) parent (l ∷ ls) =
 abbrev pub literals_at : List Clause → ℕ → List Literal
 literals_at clauses clause = option_map_or (λ c. c.literals) (slice_get clauses clause) []
 
--- the start with a clause, the extension by a literal of a clause, the reduction with the ancestor at a depth
+-- the start with a clause, the extension by a literal of a clause, the reduction with the ancestor
+-- at a depth
 pub data Step : Type 0 where
   start : ℕ → Step
   extend : ℕ → ℕ → Step
@@ -145,8 +147,8 @@ after_step clauses state step = state
 abbrev pub built : List Clause → List Step → State
 built clauses steps = fold (after_step clauses) empty steps
 
--- A node by itself: how deep it lies, its face, its clause where it was extended, and where it is a closed
--- leaf the depth of the ancestor that closes it.
+-- A node by itself: how deep it lies, its face, its clause where it was extended, and where it is a
+-- closed leaf the depth of the ancestor that closes it.
 pub record SkeletonNode : Type 0 where
   pub depth : ℕ
   pub face : Face

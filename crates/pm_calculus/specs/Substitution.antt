@@ -4,8 +4,8 @@ use Rattle.pm_logic.specs.Term.{Term, var, app, Terms, no_terms, more_terms}
 use Rattle.pm_logic.specs.Problem.{Literal, Clause}
 use Rattle.pm_logic.specs.Tableau.{Node, leaf, inner, Nodes, no_nodes, more_nodes, Tableau}
 
--- a term with terms put for its variables: the first of them for variable 0, the next for variable 1,
--- and so on; further variables stay
+-- a term with terms put for its variables: the first of them for variable 0, the next for variable
+-- 1, and so on; further variables stay
 abbrev mutual
   pub put : List Term → Term → Term
   put terms (var n) = slice_index_or terms n (var n)
@@ -24,8 +24,8 @@ put_in_literal terms literal =
       args = map (put terms) literal.args;
     }
 
--- the literals are the clause's, with one list of terms put for the clause's variables; the terms may
--- hold variables
+-- the literals are the clause's, with one list of terms put for the clause's variables; the terms
+-- may hold variables
 pub record IsInstance (clause : Clause) (literals : List Literal) : Type 0 where
   pub terms : List Term
   pub count : length terms ≡ clause.vars

@@ -14,8 +14,8 @@ pub record Atom : Type 0 where
 abbrev pub atom_of : Literal → Atom
 atom_of literal = record { predicate = literal.predicate; args = literal.args }
 
--- a truth assignment is the list of the atoms that are true; a positive literal is true where its atom
--- is, and a negative one where it isn't
+-- a truth assignment is the list of the atoms that are true; a positive literal is true where its
+-- atom is, and a negative one where it isn't
 abbrev pub IsTrueIn : List Atom → Literal → Type 0
 IsTrueIn atoms literal =
     MatchBool literal.positive (Contains atoms (atom_of literal))

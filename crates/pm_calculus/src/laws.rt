@@ -16,8 +16,8 @@ pub fn complete_lists_end()
     ensures { CompleteListsEnd }
 {}
 
-/// A labelling of what a complete list builds is in the class of the level, where it is as regular as
-/// the class asks.
+/// A labelling of what a complete list builds is in the class of the level, where it is as regular
+/// as the class asks.
 pub fn complete_lists_give_tableaux()
     ensures { CompleteListsGiveTableaux }
 {}
@@ -42,8 +42,8 @@ pub fn followed_lists_are_complete()
     ensures { FollowedListsAreComplete }
 {}
 
-/// A level has a complete list exactly where its class has a member: a level without one has an empty
-/// class.
+/// A level has a complete list exactly where its class has a member: a level without one has an
+/// empty class.
 pub fn lists_and_tableaux_agree()
     ensures { ListsAndTableauxAgree }
 {}
@@ -53,7 +53,8 @@ pub fn instances_compose()
     ensures { InstancesCompose }
 {}
 
-/// An instance of an instance of a clause is an instance of it, where the clause's variables are its own.
+/// An instance of an instance of a clause is an instance of it, where the clause's variables are
+/// its own.
 pub fn clause_instances_compose()
     ensures { ClauseInstancesCompose }
 {}
@@ -83,7 +84,8 @@ pub fn steps_may_be_taken()
     ensures { StepsMayBeTaken }
 {}
 
-/// What a list of choices builds has, node by node, the depths, faces and clauses of each of its labellings.
+/// What a list of choices builds has, node by node, the depths, faces and clauses of each of its
+/// labellings.
 pub fn labellings_show_nodes()
     ensures { LabellingsShowNodes }
 {}

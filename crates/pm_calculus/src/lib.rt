@@ -1,5 +1,5 @@
-//! The connection calculus: definitions, which stand in `specs/`, and what holds of them. The crate has no
-//! code but functions without a body, whose contracts are laws and worked examples.
+//! The connection calculus: definitions, which stand in `specs/`, and what holds of them. The crate
+//! has no code but functions without a body, whose contracts are laws and worked examples.
 #![tactic(auto)]
 
 mod examples;

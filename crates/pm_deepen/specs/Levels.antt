@@ -14,10 +14,11 @@ use Rattle.pm_deepen.specs.Answer.{IsAnswer}
 
 -- the key of a level of the calculus
 abbrev pub key_of : Level → Key
-key_of level = record { width = width level; reached = IsReached level; complete = IsComplete level }
+key_of level =
+    record { width = width level; reached = IsReached level; complete = IsComplete level }
 
--- What a problem is searched with: a class, a start rule, what bounds the tableaux of a level, the last
--- level, and the attempts that each level may take.
+-- What a problem is searched with: a class, a start rule, what bounds the tableaux of a level, the
+-- last level, and the attempts that each level may take.
 pub record Options : Type 0 where
   pub class : Class
   pub start : Start
@@ -28,7 +29,13 @@ pub record Options : Type 0 where
 -- a level of a problem
 abbrev pub level_at : Problem → Options → ℕ → Level
 level_at problem options level =
-    record { problem = problem; class = options.class; start = options.start; kind = options.bound; bound = level }
+    record {
+      problem = problem;
+      class = options.class;
+      start = options.start;
+      kind = options.bound;
+      bound = level;
+    }
 
 -- a proof goes with the general tableau of its list; no other end has a tableau
 abbrev pub GoesWith : Problem → Options → DeepEnd → Option Tableau → Type 0
@@ -40,12 +47,13 @@ GoesWith problem options DepthReached None = Unit {0}
 GoesWith problem options (BudgetOut level) (Some tableau) = ⊥
 GoesWith problem options (BudgetOut level) None = Unit {0}
 
--- The answer of a problem: the works of its exhausted levels, how the search ends, and the tableau where
--- it ends with a proof.
+-- The answer of a problem: the works of its exhausted levels, how the search ends, and the tableau
+-- where it ends with a proof.
 pub record IsAnswerOf (problem : Problem) (options : Options) (works : List ℕ) (end : DeepEnd)
     (tableau : Option Tableau) : Type 0 where
   pub search :
-      IsAnswer (λ level. key_of (level_at problem options level)) options.depth options.budget works end
+      IsAnswer (λ level. key_of (level_at problem options level))
+      options.depth options.budget works end
   pub goes : GoesWith problem options end tableau
 
 -- two answers of a problem are equal

@@ -8,10 +8,13 @@ agrees wanted entry = entry == wanted || entry == 0 || wanted == 0
 -- the goal's four numbers agree with those that the four columns have at this place
 abbrev pub is_compatible : List ℕ → List ℕ → List ℕ → List ℕ → List ℕ → ℕ → Bool
 is_compatible goal c0 c1 c2 c3 place =
-    agrees (slice_index goal 0) (slice_index c0 place) && agrees (slice_index goal 1) (slice_index c1 place)
-    && agrees (slice_index goal 2) (slice_index c2 place) && agrees (slice_index goal 3) (slice_index c3 place)
+    agrees (slice_index goal 0) (slice_index c0 place)
+    && agrees (slice_index goal 1) (slice_index c1 place)
+    && agrees (slice_index goal 2) (slice_index c2 place)
+    && agrees (slice_index goal 3) (slice_index c3 place)
 
--- of a vector with one lane for each of four places from at on, the lanes are 0 whose place passes the test
+-- of a vector with one lane for each of four places from at on, the lanes are 0 whose place passes
+-- the test
 pub record IsZeroWhere (test : ℕ → Bool) (at : ℕ) (vector : List ℕ) : Type 0 where
   pub long : length vector ≡ 4
   pub each : (k : ℕ) → k < 4 → (slice_index vector k == 0) ≡ test (at + k)

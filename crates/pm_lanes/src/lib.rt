@@ -1,7 +1,8 @@
 //! The two inner loops of the search, on vectors of four places.
 //!
-//! Most columns are short, so nothing is done before the first compare: no run up to an aligned place
-//! and no look at the goal. The places at a column's end that fill no vector are read one by one.
+//! Most columns are short, so nothing is done before the first compare: no run up to an aligned
+//! place and no look at the goal. The places at a column's end that fill no vector are read one by
+//! one.
 #![tactic(auto)]
 
 ghost use Rattle.std.specs.Prelude.{◌≡◌, ◌+◌, ◌<◌, ◌≤◌, ◌==◌, position, length, slice_index};
@@ -13,9 +14,9 @@ use std::simd::prelude::*;
 // The places of one vector: 16 bytes, a register of every processor that the compiler builds for.
 const LANES: usize = 4;
 
-/// The first place from `from` on at which the goal's four numbers agree with those of the columns, or
-/// the columns' length where there is none. Two numbers agree where both are the same or one is 0, which
-/// stands for no symbol.
+/// The first place from `from` on at which the goal's four numbers agree with those of the columns,
+/// or the columns' length where there is none. Two numbers agree where both are the same or one is
+/// 0, which stands for no symbol.
 pub fn next_compatible(
     goal: [u32; 4],
     c0: &[u32],
@@ -92,7 +93,8 @@ fn agrees(wanted: u32, entry: u32) -> bool
     entry == wanted || entry == 0 || wanted == 0
 }
 
-// A bit for each place of one vector, the first the lowest: it is set where the place is compatible.
+// A bit for each place of one vector, the first the lowest: it is set where the place is
+// compatible.
 #[inline(always)]
 fn compatible_lanes(
     goal: [u32; 4],

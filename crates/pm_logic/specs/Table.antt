@@ -34,7 +34,8 @@ variable_count [] = 0
 variable_count (var n ∷ ts) = 1 + variable_count ts
 variable_count (app symbol args ∷ ts) = variable_count ts
 
--- entries name rows before their own, no two have the same tree, and the variables are the first so many
+-- entries name rows before their own, no two have the same tree, and the variables are the first so
+-- many
 pub record IsTable (es : List Entry) (vars : ℕ) : Type 0 where
   pub below : PointDown 0 es
   pub distinct : AreDistinct (trees es)

@@ -86,8 +86,8 @@ abbrev pub deepest_after : NodeKind → ℕ → ℕ
 deepest_after Leaf at_depth = at_depth
 deepest_after (Inner clause) at_depth = at_depth + 1
 
--- The depth that the next node in pre-order may have at most: as deep as a leaf before it, one deeper
--- than an inner node before it, and 1 at first.
+-- The depth that the next node in pre-order may have at most: as deep as a leaf before it, one
+-- deeper than an inner node before it, and 1 at first.
 abbrev pub deepest_next : List Entry → ℕ
 deepest_next [] = 1
 deepest_next (e ∷ []) = deepest_after e.kind e.depth
@@ -98,8 +98,8 @@ abbrev pub childless : Literal → NodeKind → Node
 childless literal Leaf = leaf literal
 childless literal (Inner clause) = inner literal clause no_nodes
 
--- The forest with one more node, the last in pre-order, so many levels below the forest's own nodes:
--- a child of the last node of the level above it.
+-- The forest with one more node, the last in pre-order, so many levels below the forest's own
+-- nodes: a child of the last node of the level above it.
 abbrev mutual
   pub with_last : ℕ → Node → Nodes → Nodes
   with_last level node no_nodes = more_nodes node no_nodes

@@ -4,8 +4,8 @@ use Rattle.std.specs.Coded.{Coded, code_by, coded_list, coded⊎, coded_ℕ}
 use Rattle.std.proofs.Common.{inl, inr, ◌∙◌, ap}
 use Rattle.pm_logic.specs.Term.{Term, Terms, var, app, no_terms, more_terms}
 
--- A term is stored as marks, its arguments' before its own: a variable, a symbol whose arguments come
--- before, or the end of a list of arguments.
+-- A term is stored as marks, its arguments' before its own: a variable, a symbol whose arguments
+-- come before, or the end of a list of arguments.
 abbrev pub Mark : Type 0
 Mark = ℕ ⊎ (ℕ ⊎ ℕ)
 

@@ -9,8 +9,8 @@ use indexmap::IndexMap;
 use std::alloc::{AllocError, Global};
 use std::marker::Model;
 
-/// What a symbol is used as. Only the text `=` with two arguments is of the kind `Equality`; the word
-/// `'='` is a predicate or a function beside it.
+/// What a symbol is used as. Only the text `=` with two arguments is of the kind `Equality`; the
+/// word `'='` is a predicate or a function beside it.
 #[derive(Clone, Copy, Debug, PartialEq, Eq, Hash)]
 pub enum Kind {
     Predicate,

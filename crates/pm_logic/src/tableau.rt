@@ -66,8 +66,8 @@ impl Tableau {
         }
     }
 
-    /// Adds the next node in pre-order. It lies as deep as a leaf before it at most, one deeper than
-    /// an inner node before it at most, and the first node has the depth 1.
+    /// Adds the next node in pre-order. It lies as deep as a leaf before it at most, one deeper
+    /// than an inner node before it at most, and the first node has the depth 1.
     pub fn add(&mut self, node: Node) -> Result<(), AllocError>
         requires below_root { 1 ≤ node.depth }
         requires shallow { node.depth ≤ deepest_next (preorder self.old.tableau) }
@@ -116,7 +116,8 @@ pub fn tableau_depth(tableau: &Tableau) -> u32
     deepest
 }
 
-/// The number of clause instances of the tableau: of its nodes that carry a clause, the root among them.
+/// The number of clause instances of the tableau: of its nodes that carry a clause, the root among
+/// them.
 pub fn tableau_instances(tableau: &Tableau) -> u64
     ensures { result ≡ instances tableau.now.tableau }
 {

@@ -24,8 +24,8 @@ pub fn write_word(into: &mut Vec<u8>, text: &str) -> Result<(), AllocError>
     written
 }
 
-/// Appends the symbol of this number: `=` for equality, and any other symbol's text as a word. Where
-/// memory is wanting `into` stays as it was.
+/// Appends the symbol of this number: `=` for equality, and any other symbol's text as a word.
+/// Where memory is wanting `into` stays as it was.
 pub fn write_symbol(into: &mut Vec<u8>, symbols: &Symbols, id: u32) -> Result<(), AllocError>
     requires { id < length symbols.now }
     ensures ok { OnOk result (IsSomeAnd (slice_get symbols.now id)
@@ -75,7 +75,8 @@ fn quote(into: &mut Vec<u8>, text: &[u8]) -> Result<(), AllocError>
     Ok(())
 }
 
-// Appends the byte, after `\` where it is `'` or `\`. Where memory is wanting the `\` may stand alone.
+// Appends the byte, after `\` where it is `'` or `\`. Where memory is wanting the `\` may stand
+// alone.
 fn escape(into: &mut Vec<u8>, byte: u8) -> Result<(), AllocError>
     ensures ok { OnOk result (into.new.items ≡ into.old.items ++ escaped byte) }
     ensures err { take (length into.old.items) into.new.items ≡ into.old.items }

@@ -24,9 +24,15 @@ pub record LibraryState : Type 0 where
 abbrev pub library_code : Coded LibraryState
 library_code =
     code_by ((Files × set.FinSet nat_cmp) × (ℕ × (ℕ × (ℕ × ℕ))))
-    (coded× (coded× (map.code (coded_list coded_ℕ) (coded_list coded_ℕ)) (set.code coded_ℕ)) (coded× coded_ℕ (coded× coded_ℕ (coded× coded_ℕ coded_ℕ))))
+    (coded× (coded× (map.code (coded_list coded_ℕ) (coded_list coded_ℕ)) (set.code coded_ℕ))
+    (coded× coded_ℕ (coded× coded_ℕ (coded× coded_ℕ coded_ℕ))))
     (λ s. ((s.files, s.failing), (s.calls, (s.counts.faults, (s.counts.misses, s.counts.longs)))))
-    (λ t. record { files = t.0.0; failing = t.0.1; calls = t.1.0; counts = record { faults = t.1.1.0; misses = t.1.1.1.0; longs = t.1.1.1.1 } })
+    (λ t. record {
+      files = t.0.0;
+      failing = t.0.1;
+      calls = t.1.0;
+      counts = record { faults = t.1.1.0; misses = t.1.1.1.0; longs = t.1.1.1.1 };
+    })
     (λ _. refl)
 
 -- no file and no failing fetch, and each count is 0
@@ -45,13 +51,17 @@ answer_of (Some bytes) limit = if nat_le (length bytes) limit then Ok bytes else
 -- what the next fetch answers where there is memory for it
 abbrev pub next_answer : LibraryState → List ℕ → ℕ → Result (List ℕ) FetchFault
 next_answer library name limit =
-    if set.contains library.failing library.calls then Err Failed else answer_of (map.get library.files name) limit
+    if set.contains library.failing library.calls
+    then Err Failed
+    else answer_of (map.get library.files name) limit
 
 -- the library after a fetch to which this is the answer
 abbrev pub after_fetch : LibraryState → Result (List ℕ) FetchFault → LibraryState
-after_fetch library answer = record library { calls = next_count library.calls; counts = counts_after library.counts answer }
+after_fetch library answer =
+    record library { calls = next_count library.calls; counts = counts_after library.counts answer }
 
 -- it is that answer, or there was no memory for its bytes
 abbrev pub Answers : Result (Vec ℕ) FetchFault → Result (List ℕ) FetchFault → Type 0
-Answers result (Ok bytes) = MatchResult result (λ copy. copy.items ≡ bytes) (λ fault. fault ≡ Memory)
+Answers result (Ok bytes) =
+    MatchResult result (λ copy. copy.items ≡ bytes) (λ fault. fault ≡ Memory)
 Answers result (Err fault) = result ≡ Err fault

@@ -18,9 +18,16 @@ pub record SinkState : Type 0 where
 abbrev pub sink_code : Coded SinkState
 sink_code =
     code_by ((List ℕ × ℕ) × (map.FinMap nat_cmp ℕ × (ℕ × ℕ)))
-    (coded× (coded× (coded_list coded_ℕ) coded_ℕ) (coded× (map.code coded_ℕ coded_ℕ) (coded× coded_ℕ coded_ℕ)))
+    (coded× (coded× (coded_list coded_ℕ) coded_ℕ)
+    (coded× (map.code coded_ℕ coded_ℕ) (coded× coded_ℕ coded_ℕ)))
     (λ s. ((s.written, s.room), (s.failing, (s.calls, s.faults))))
-    (λ t. record { written = t.0.0; room = t.0.1; failing = t.1.0; calls = t.1.1.0; faults = t.1.1.1 })
+    (λ t. record {
+      written = t.0.0;
+      room = t.0.1;
+      failing = t.1.0;
+      calls = t.1.1.0;
+      faults = t.1.1.1;
+    })
     (λ _. refl)
 
 -- no byte and no failing put, and each count is 0

@@ -55,14 +55,15 @@ impl<'r, R: Files> Library for HostLibrary<'r, R> {
     ghost told = { λ _. untold };
 
     /// The bytes of the file at this path. The answer is `Missing` where no file is found there,
-    /// `TooLong` where it has more bytes than the limit, `Memory` where there is no memory for them,
-    /// and `Failed` at every other fault of the system, as at a folder.
+    /// `TooLong` where it has more bytes than the limit, `Memory` where there is no memory for
+    /// them, and `Failed` at every other fault of the system, as at a folder.
     fn fetch(&mut self, alloc: Global, name: &str, limit: u64) -> Result<Vec<u8>, FetchFault>
         ensures counts { self.new ≡ counts_after self.old result }
 
         // What every library ensures.
         ensures within { IfOk result (λ bytes. length bytes.items ≤ limit) }
-        ensures bytes { IfOk result (λ bytes. IfSome untold (λ files. map.get files name.now ≡ Some bytes.items)) }
+        ensures bytes { IfOk result (λ bytes.
+            IfSome untold (λ files. map.get files name.now ≡ Some bytes.items)) }
         ensures missing { IsErrOf result FetchFault.Missing → Rose self.old.misses self.new.misses
             × IfSome untold (λ files. map.get files name.now ≡ None) }
         ensures too_long { IsErrOf result FetchFault.TooLong → Rose self.old.longs self.new.longs
@@ -103,7 +104,8 @@ fn cause_of(error: &Error) -> FetchFault
 fn read_at_most<F: Read>(file: &mut F, alloc: Global, limit: u64) -> Result<Vec<u8>, FetchFault>
     ensures within { IfOk result (λ bytes. length bytes.items ≤ limit) }
     ensures whole { IfOk result (λ bytes. IfSome (F.remaining file.old) (λ content. bytes.items ≡ content)) }
-    ensures too_long { IsErrOf result FetchFault.TooLong → IfSome (F.remaining file.old) (λ content. limit < length content) }
+    ensures too_long { IsErrOf result FetchFault.TooLong
+        → IfSome (F.remaining file.old) (λ content. limit < length content) }
     ensures stops { IsErrOf result FetchFault.TooLong
         → (piece : List ℕ) × (length piece ≤ limit + 1) × Consumes (F.remaining file.old) (F.remaining file.new) piece }
     ensures found { result ≢ Err FetchFault.Missing }
@@ -128,7 +130,8 @@ fn read_piece<F: Read>(file: &mut F, bytes: &mut Vec<u8>, most: usize) -> Result
     requires some { 0 < most }
     requires fits { vec_len bytes.old + most < 2 ^ 64 }
     ensures within { IfOk result (λ count. count ≤ most) }
-    ensures reads { IfOk result (Reads (F.remaining file.old) (F.remaining file.new) bytes.old.items bytes.new.items) }
+    ensures reads { IfOk result
+        (Reads (F.remaining file.old) (F.remaining file.new) bytes.old.items bytes.new.items) }
     ensures failed { IfErr result IsReadFault }
 {
     let start = bytes.len();

@@ -25,9 +25,9 @@ pub enum FetchFault {
 
 /// Where files come from.
 ///
-/// A library counts its faults, the names that it missed and the files that were too long. The counts
-/// are `u64`s that never fall: at its last value a count stays. A library that tells its files
-/// (`told`) gives exactly these, and no call changes them.
+/// A library counts its faults, the names that it missed and the files that were too long. The
+/// counts are `u64`s that never fall: at its last value a count stays. A library that tells its
+/// files (`told`) gives exactly these, and no call changes them.
 pub trait Library {
     ghost faults: { Self → ℕ };
 
@@ -40,7 +40,8 @@ pub trait Library {
     /// The bytes of the file of this name, at most `limit` of them.
     fn fetch(&mut self, alloc: Global, name: &str, limit: u64) -> Result<Vec<u8>, FetchFault>
         ensures within { IfOk result (λ bytes. length bytes.items ≤ limit) }
-        ensures bytes { IfOk result (λ bytes. IfSome (told self.old) (λ files. map.get files name.now ≡ Some bytes.items)) }
+        ensures bytes { IfOk result (λ bytes.
+            IfSome (told self.old) (λ files. map.get files name.now ≡ Some bytes.items)) }
 
         // Each fault has its cause.
         ensures missing { IsErrOf result FetchFault.Missing → Rose (misses self.old) (misses self.new)

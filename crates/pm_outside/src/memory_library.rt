@@ -12,7 +12,8 @@ use std::alloc::{AllocError, Global};
 use std::collections::BTreeMap;
 use std::marker::Model;
 
-/// A library whose files a program adds. It tells them, and it fails in the calls that it is told to.
+/// A library whose files a program adds. It tells them, and it fails in the calls that it is told
+/// to.
 #[derive(Drop)]
 pub struct MemoryLibrary {
     alloc: Global,
@@ -30,7 +31,12 @@ impl Model for MemoryLibrary {
 
     ghost coded = { library_code };
 
-    ghost view = { λ a. record { files = files_of a.files.entries; failing = set.from_list a.failing.items; calls = a.calls; counts = a.counts } };
+    ghost view = { λ a. record {
+      files = files_of a.files.entries;
+      failing = set.from_list a.failing.items;
+      calls = a.calls;
+      counts = a.counts;
+    } };
 }
 
 impl MemoryLibrary {
@@ -47,10 +53,11 @@ impl MemoryLibrary {
         })
     }
 
-    /// Adds a file of this name, or gives it these bytes in place of those that it had. Where there is
-    /// no memory, the library stays as it was.
+    /// Adds a file of this name, or gives it these bytes in place of those that it had. Where there
+    /// is no memory, the library stays as it was.
     pub fn add(&mut self, name: &str, bytes: &[u8]) -> Result<(), AllocError>
-        ensures ok { OnOk result (self.new ≡ record self.old { files = map.insert self.old.files name.now bytes.now }) }
+        ensures ok { OnOk result
+            (self.new ≡ record self.old { files = map.insert self.old.files name.now bytes.now }) }
         ensures err { OnErr result (self.new ≡ self.old) }
     {
         let key = String::from_str(self.alloc, name)?;

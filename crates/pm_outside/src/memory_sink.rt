@@ -9,8 +9,8 @@ use std::alloc::{AllocError, Global};
 use std::collections::BTreeMap;
 use std::marker::Model;
 
-/// A sink with room for so many bytes. It tells the bytes that it has got, and it fails in the calls
-/// that it is told to.
+/// A sink with room for so many bytes. It tells the bytes that it has got, and it fails in the
+/// calls that it is told to.
 #[derive(Drop)]
 pub struct MemorySink {
     written: Vec<u8>,
@@ -29,7 +29,13 @@ impl Model for MemorySink {
 
     ghost coded = { sink_code };
 
-    ghost view = { λ a. record { written = a.written.items; room = a.room; failing = map.from_entries a.failing.entries; calls = a.calls; faults = a.faults } };
+    ghost view = { λ a. record {
+      written = a.written.items;
+      room = a.room;
+      failing = map.from_entries a.failing.entries;
+      calls = a.calls;
+      faults = a.faults;
+    } };
 
     ghost invariant = { λ a. vec_len a.written + a.room ≤ vec_capacity a.written };
 }
@@ -49,11 +55,12 @@ impl MemorySink {
         })
     }
 
-    /// From now on the put with this number fails, and takes at most so many bytes. Puts are counted
-    /// from 0. Where a number is given again, the later `taken` counts. Where there is no memory, the
-    /// sink stays as it was.
+    /// From now on the put with this number fails, and takes at most so many bytes. Puts are
+    /// counted from 0. Where a number is given again, the later `taken` counts. Where there is no
+    /// memory, the sink stays as it was.
     pub fn fail_at(&mut self, call: u64, taken: usize) -> Result<(), AllocError>
-        ensures ok { OnOk result (self.new ≡ record self.old { failing = map.insert self.old.failing call taken }) }
+        ensures ok { OnOk result
+            (self.new ≡ record self.old { failing = map.insert self.old.failing call taken }) }
         ensures err { OnErr result (self.new ≡ self.old) }
     {
         self.failing.insert(call, taken)?;
@@ -100,8 +107,8 @@ impl Sink for MemorySink {
 
     ghost written = { λ sink. Some sink.written };
 
-    /// Takes what fits in the room, and in a call that `fail_at` named no more than it said. The put
-    /// fails in these calls, and where the bytes are more than the room.
+    /// Takes what fits in the room, and in a call that `fail_at` named no more than it said. The
+    /// put fails in these calls, and where the bytes are more than the room.
     fn put(&mut self, bytes: &[u8]) -> Result<(), PutFault>
         ensures answer { IsErr result ↔ IsTrue (fails self.old bytes.now) }
         ensures state { self.new ≡ after_put self.old bytes.now }

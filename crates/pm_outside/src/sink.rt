@@ -14,8 +14,8 @@ pub enum PutFault {
 
 /// Where text goes.
 ///
-/// A sink counts its faults in a `u64` that never falls: at its last value it stays. A sink may tell
-/// the bytes that it has got (`written`).
+/// A sink counts its faults in a `u64` that never falls: at its last value it stays. A sink may
+/// tell the bytes that it has got (`written`).
 pub trait Sink {
     ghost faults: { Self → ℕ };
 

@@ -3,7 +3,8 @@ use Rattle.std.specs.Prelude.{◌≡◌, ℕ, ◌+◌, ◌≤◌, Bool, true, fa
 use Rattle.pm_steal.specs.declared.steps.Step.{Step}
 use Rattle.pm_steal.specs.declared.steps.Step.TheVariants.{Push, Pop, Steal}
 
--- one step makes the new list of the old one: a push appends, a pop takes the last, a steal takes the first
+-- one step makes the new list of the old one: a push appends, a pop takes the last, a steal takes
+-- the first
 abbrev pub Makes : List ℕ → Step → List ℕ → Type 0
 Makes old (Push x) new = new ≡ old ++ x ∷ []
 Makes old (Pop x) new = old ≡ new ++ x ∷ []
@@ -40,14 +41,19 @@ takes x (Push y) = false
 takes x (Pop y) = y == x
 takes x (Steal y) = y == x
 
--- The rule, of the numbers in a deque, the oldest first, and of each thread's steps. Each number was pushed as often
--- as it was taken or stands in the deque, and all steps together, in some order, are turns that lead from the empty
--- deque to this one.
+-- The rule, of the numbers in a deque, the oldest first, and of each thread's steps. Each number
+-- was pushed as often as it was taken or stands in the deque, and all steps together, in some
+-- order, are turns that lead from the empty deque to this one.
 pub record IsKept (items : List ℕ) (views : List (List Step)) : Type 0 where
-  pub counted : (x : ℕ) → sum_by (count_by (pushes x)) views ≡ sum_by (count_by (takes x)) views + count_by (λ y. y == x) items
-  pub ordered : (turns : List Turn) × LeadsTo [] turns items × ((thread : ℕ) → steps_of thread turns ≡ slice_index_or views thread [])
+  pub counted :
+      (x : ℕ) → sum_by (count_by (pushes x)) views
+      ≡ sum_by (count_by (takes x)) views + count_by (λ y. y == x) items
+  pub ordered :
+      (turns : List Turn) × LeadsTo [] turns items
+      × ((thread : ℕ) → steps_of thread turns ≡ slice_index_or views thread [])
 
 -- at one moment the rule held of at most so many numbers, and of these steps among the threads'
 abbrev pub HeldAtMost : ℕ → List Step → Type 0
 HeldAtMost most steps =
-    (items : List ℕ) × (views : List (List Step)) × (length items ≤ most) × IsKept items views × Contains views steps
+    (items : List ℕ) × (views : List (List Step)) × (length items ≤ most) × IsKept items views
+    × Contains views steps

@@ -22,11 +22,15 @@ reach_len reach = length reach.grips.items
 
 -- the victims of both are the same deques, in the same order
 abbrev pub SameDeques : Reach → Reach → Type 0
-SameDeques old new = map (λ grip. stealer_deque grip.thief) new.grips.items ≡ map (λ grip. stealer_deque grip.thief) old.grips.items
+SameDeques old new =
+    map (λ grip. stealer_deque grip.thief) new.grips.items
+    ≡ map (λ grip. stealer_deque grip.thief) old.grips.items
 
 -- the victims of this reach are the deques of all these hands, in their order
 abbrev pub ReachesAll : List Hand → Reach → Type 0
-ReachesAll hands reach = map (λ grip. stealer_deque grip.thief) reach.grips.items ≡ map (λ hand. worker_deque hand.worker) hands
+ReachesAll hands reach =
+    map (λ grip. stealer_deque grip.thief) reach.grips.items
+    ≡ map (λ hand. worker_deque hand.worker) hands
 
 -- what this reach did to the deque of each victim
 abbrev pub reach_steps : Reach → List (List Step)
@@ -51,9 +55,11 @@ HasCause Again steps before after = (before < after) ⊎ HeldAtMost 1 steps
 -- only the count of this victim may have changed
 abbrev pub SameOtherCounts : ℕ → Reach → Reach → Type 0
 SameOtherCounts victim old new =
-    (other : ℕ) → other ≢ victim → slice_index (reach_counts new) other ≡ slice_index (reach_counts old) other
+    (other : ℕ) → other ≢ victim
+    → slice_index (reach_counts new) other ≡ slice_index (reach_counts old) other
 
--- one hand and one reach for each worker, with no step taken, and each reach has the deques of all hands in their order
+-- one hand and one reach for each worker, with no step taken, and each reach has the deques of all
+-- hands in their order
 pub record AreMade (workers : ℕ) (hands : List Hand) (reaches : List Reach) : Type 0 where
   pub hand_count : length hands ≡ workers
   pub reach_count : length reaches ≡ workers

@@ -46,8 +46,8 @@ impl Hand {
         Ok(Hand { worker })
     }
 
-    /// Puts a row's number on this worker's deque. False where the deque is full and cannot grow, which
-    /// comes only after as many pushes as it has room for.
+    /// Puts a row's number on this worker's deque. False where the deque is full and cannot grow,
+    /// which comes only after as many pushes as it has room for.
     pub fn push(&mut self, row: u64) -> bool
         ensures deque { SameDeque self.old self.new }
         ensures pushed { OnTrue result (hand_steps self.new ≡ hand_steps self.old ++ Push row ∷ []) }
@@ -70,7 +70,8 @@ impl Hand {
     fn grip(&mut self) -> Result<Grip, AllocError>
         ensures deque { SameDeque self.old self.new }
         ensures steps { hand_steps self.new ≡ hand_steps self.old }
-        ensures grip { IfOk result (λ grip. (stealer_deque grip.thief ≡ worker_deque self.old.worker) × (view grip.pass ≡ [])) }
+        ensures grip { IfOk result (λ grip.
+            (stealer_deque grip.thief ≡ worker_deque self.old.worker) × (view grip.pass ≡ [])) }
     {
         let thief = self.worker.stealer()?;
         let pass = self.worker.another::<Joining>();
@@ -94,7 +95,9 @@ impl Grip {
 
 impl Reach {
     fn new(alloc: Global, hands: &mut [Hand]) -> Result<Reach, AllocError>
-        ensures hand_deques { OnOk result (map (λ hand. worker_deque hand.worker) hands.new ≡ map (λ hand. worker_deque hand.worker) hands.old) }
+        ensures hand_deques { OnOk result
+            (map (λ hand. worker_deque hand.worker) hands.new
+            ≡ map (λ hand. worker_deque hand.worker) hands.old) }
         ensures hand_steps { OnOk result (map hand_steps hands.new ≡ map hand_steps hands.old) }
         ensures victims { IfOk result (λ reach. reach_len reach ≡ length hands.old) }
         ensures deques { IfOk result (ReachesAll hands.old) }
@@ -119,9 +122,13 @@ impl Reach {
     pub fn steal(&mut self, victim: u16) -> Stolen
         requires { victim < reach_len self.old }
         ensures deques { SameDeques self.old self.new }
-        ensures steps { reach_steps self.new ≡ slice_set (reach_steps self.old) victim (after_steal result (slice_index_or (reach_steps self.old) victim [])) }
+        ensures steps { reach_steps self.new
+            ≡ slice_set (reach_steps self.old) victim
+            (after_steal result (slice_index_or (reach_steps self.old) victim [])) }
         ensures others { SameOtherCounts victim self.old self.new }
-        ensures cause { HasCause result (slice_index_or (reach_steps self.old) victim []) (slice_index (reach_counts self.old) victim) (slice_index (reach_counts self.new) victim) }
+        ensures cause { HasCause result (slice_index_or (reach_steps self.old) victim [])
+            (slice_index (reach_counts self.old) victim)
+            (slice_index (reach_counts self.new) victim) }
     {
         self.grips[victim as usize].steal()
     }
@@ -171,7 +178,8 @@ mod tests {
         reach: Reach,
     }
 
-    // What one thread takes that pushes its numbers, steals between the pushes, and empties its deque.
+    // What one thread takes that pushes its numbers, steals between the pushes, and empties its
+    // deque.
     fn take_all(alloc: Global, me: Participant) -> Result<Vec<u64>, AllocError> {
         let Participant {
             first,

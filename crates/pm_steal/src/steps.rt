@@ -14,7 +14,8 @@ pub enum Step {
     Steal(u64),
 }
 
-/// The steps of one thread, in their order. Contracts alone speak of them, so no value of it is made.
+/// The steps of one thread, in their order. Contracts alone speak of them, so no value of it is
+/// made.
 pub type Steps = LinkedList<Step>;
 
 /// The rule: each number that was pushed is taken once or stands in the deque.

@@ -1,4 +1,5 @@
--- Equations between cells: each cell is a variable or an application, and variables are bound to cells.
+-- Equations between cells: each cell is a variable or an application, and variables are bound to
+-- cells.
 use Rattle.std.specs.Prelude.{◌≡◌, ℕ, suc, ◌+◌, ◌==◌, is_none, if◌then◌else◌, List, [], ◌∷◌, ◌++◌, replicate, Option, Some, None, slice_get}
 use Rattle.pm_store.specs.Entries.{Entry, Variable, Application}
 
@@ -27,7 +28,8 @@ with_new_variables s count = record {
 }
 
 abbrev pub with_binding : Equations → ℕ → ℕ → Equations
-with_binding s v t = record { cells = s.cells; bindings = record { variable = v; target = t } ∷ s.bindings }
+with_binding s v t =
+    record { cells = s.cells; bindings = record { variable = v; target = t } ∷ s.bindings }
 
 -- what a variable is bound to, if it is bound
 abbrev pub target_of : List Binding → ℕ → Option ℕ

@@ -38,7 +38,8 @@ abbrev pub TreesAreOfFreeVariables : Type 0
 TreesAreOfFreeVariables = (s : Equations) (c v : ℕ) → IsSound s → c < length s.cells
     → Occurs v (tree s c) → IsFree s v
 
--- in a store that has grown, a cell has the tree that it had, with the new trees in the place of its variables
+-- in a store that has grown, a cell has the tree that it had, with the new trees in the place of
+-- its variables
 abbrev pub LaterTrees : Type 0
 LaterTrees = (before after : Equations) → IsSound before → IsSound after → IsLater before after
     → (c : ℕ) → c < length before.cells → tree after c ≡ fill (tree after) (tree before c)
@@ -61,7 +62,8 @@ ResolvedTermsSolve = (s : Equations) (r : Resolved) (table : List Term) → IsSo
     → (solution : ℕ → Term) × Solves s solution × ((cell row : ℕ) → row_of r cell ≡ Some row
     → slice_get table row ≡ Some (solution cell))
 
--- in each solution the trees of these cells are instances of them, by its trees of the free variables
+-- in each solution the trees of these cells are instances of them, by its trees of the free
+-- variables
 abbrev pub ResolvedTermsAreGeneral : Type 0
 ResolvedTermsAreGeneral = (s : Equations) (r : Resolved) (table : List Term) (solution : ℕ → Term)
     → IsSound s → IsResolved s r table → Solves s solution

@@ -51,7 +51,8 @@ pub record HasRow (s : Equations) (free : List ℕ) (table : List Term) (cell ro
   pub stands : slice_get table row ≡ Some (fill (numbered free) (tree s cell))
   pub variables : (v : ℕ) → Occurs v (tree s cell) → Contains free v
 
--- the resolver was used with this store and this table alone, and has numbered the table's variables
+-- the resolver was used with this store and this table alone, and has numbered the table's
+-- variables
 pub record IsResolved (s : Equations) (r : Resolved) (table : List Term) : Type 0 where
   pub rows : (cell row : ℕ) → row_of r cell ≡ Some row → HasRow s r.free table cell row
   pub free : (v : ℕ) → Contains r.free v → IsFree s v × (row_of r v ≢ None)
@@ -59,7 +60,8 @@ pub record IsResolved (s : Equations) (r : Resolved) (table : List Term) : Type 
   pub count : variable_count table ≡ length r.free
 
 -- rows, variables and terms were added, and none was taken away
-pub record IsMore (r : Resolved) (table : List Term) (new : Resolved) (grown : List Term) : Type 0 where
+pub record IsMore (r : Resolved) (table : List Term) (new : Resolved)
+    (grown : List Term) : Type 0 where
   pub rows : (more : List (ℕ × ℕ)) × (new.rows ≡ r.rows ++ more)
   pub free : (more : List ℕ) × (new.free ≡ r.free ++ more)
   pub terms : (more : List Term) × (grown ≡ table ++ more)

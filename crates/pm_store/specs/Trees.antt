@@ -28,7 +28,8 @@ abbrev mutual
 -- the tree of a cell: a binding puts its target's tree in the place of its variable
 abbrev pub tree_under : List Entry → List Binding → ℕ → Term
 tree_under cells [] c = tree_at (trees_from [] cells) c
-tree_under cells (b ∷ bs) c = put_at b.variable (tree_under cells bs b.target) (tree_under cells bs c)
+tree_under cells (b ∷ bs) c =
+    put_at b.variable (tree_under cells bs b.target) (tree_under cells bs c)
 
 abbrev pub tree : Equations → ℕ → Term
 tree s = tree_under s.cells s.bindings

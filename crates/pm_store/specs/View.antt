@@ -6,7 +6,8 @@ use Rattle.pm_store.specs.declared.store.Cell.{Cell}
 use Rattle.pm_store.specs.declared.store.Cell.TheVariants.{Free, App}
 use Rattle.pm_store.specs.Equations.{Equations, IsFree}
 
--- the cell is a free variable, and shown by its number; or an application, and shown by its symbol and arguments
+-- the cell is a free variable, and shown by its number; or an application, and shown by its symbol
+-- and arguments
 abbrev pub Shows : Equations → ℕ → Cell → Type 0
 Shows s c (Free v) = (v ≡ c) × IsFree s v
 Shows s c (App symbol args) = (slice_get s.cells c ≡ Some (Application symbol args.now))

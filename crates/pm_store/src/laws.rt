@@ -31,8 +31,8 @@ pub fn trees_are_of_free_variables()
     ensures { TreesAreOfFreeVariables }
 {}
 
-/// In a store that has grown, each cell has the tree that it had, with the new trees in the place of
-/// its variables.
+/// In a store that has grown, each cell has the tree that it had, with the new trees in the place
+/// of its variables.
 pub fn later_trees_are_filled()
     ensures { LaterTrees }
 {}
@@ -53,8 +53,8 @@ pub fn resolved_terms_solve()
     ensures { ResolvedTermsSolve }
 {}
 
-/// In every solution of a store the trees of these cells are instances of them, by the trees that the
-/// solution has for the free variables.
+/// In every solution of a store the trees of these cells are instances of them, by the trees that
+/// the solution has for the free variables.
 pub fn resolved_terms_are_general()
     ensures { ResolvedTermsAreGeneral }
 {}

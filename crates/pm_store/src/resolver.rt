@@ -17,8 +17,8 @@ use std::alloc::{AllocError, Global};
 use std::marker::Model;
 
 /// Gives the terms of cells of a store in which nothing changes, as rows of one table. It comes to
-/// each cell once in all its calls. Seen as the row of each resolved cell, and the free variables in
-/// the order of their numbers.
+/// each cell once in all its calls. Seen as the row of each resolved cell, and the free variables
+/// in the order of their numbers.
 #[derive(Drop)]
 pub struct Resolver {
     alloc: Global,
@@ -62,8 +62,8 @@ impl Resolver {
 
     /// Gives the row of the term of a cell, in which each free variable has its number: they are
     /// numbered by first occurrence, on from the calls before. These were with the same store, in
-    /// which nothing has changed, and the same table, whose variables they have added. After want of
-    /// memory the table may hold further rows, and all else is as before.
+    /// which nothing has changed, and the same table, whose variables they have added. After want
+    /// of memory the table may hold further rows, and all else is as before.
     pub fn resolve(
         &mut self,
         store: &Store,

@@ -48,7 +48,8 @@ pub fn add_variable(slots: &mut Vec<Slot>, args: &Vec<Addr>) -> Result<usize, Al
     Ok(place)
 }
 
-/// Adds so many variables, and gives the first one's place. After want of memory nothing has changed.
+/// Adds so many variables, and gives the first one's place. After want of memory nothing has
+/// changed.
 pub fn add_variables(
     slots: &mut Vec<Slot>,
     args: &Vec<Addr>,

@@ -95,8 +95,8 @@ impl Store {
         self.slots.len()
     }
 
-    /// Adds a free variable, which may have any tree, and gives its address. After want of memory the
-    /// store is as before.
+    /// Adds a free variable, which may have any tree, and gives its address. After want of memory
+    /// the store is as before.
     pub fn fresh(&mut self) -> Result<Addr, AllocError>
         ensures place { IfOk result (λ v. v ≡ length self.old.cells) }
         ensures ok { OnOk result (self.new ≡ with_cell self.old Variable) }
@@ -111,8 +111,8 @@ impl Store {
         Ok(Addr(cell))
     }
 
-    /// Adds so many free variables, which may have any trees, and gives the first one's address. After
-    /// want of memory the store is as before.
+    /// Adds so many free variables, which may have any trees, and gives the first one's address.
+    /// After want of memory the store is as before.
     pub fn fresh_many(&mut self, count: usize) -> Result<Addr, AllocError>
         ensures place { IfOk result (λ first. first ≡ length self.old.cells) }
         ensures ok { OnOk result (self.new ≡ with_new_variables self.old count) }
@@ -136,9 +136,9 @@ impl Store {
         Addr(first.0 + count)
     }
 
-    /// Adds an application of a symbol to cells of the store, and gives its address: the solutions are
-    /// then the old ones in which the new cell's tree is the symbol over the arguments' trees. After
-    /// want of memory the store is as before.
+    /// Adds an application of a symbol to cells of the store, and gives its address: the solutions
+    /// are then the old ones in which the new cell's tree is the symbol over the arguments' trees.
+    /// After want of memory the store is as before.
     pub fn make(&mut self, symbol: u32, args: &[Addr]) -> Result<Addr, AllocError>
         requires { All (λ arg. arg < length self.old.cells) args.now }
         ensures place { IfOk result (λ cell. cell ≡ length self.old.cells) }
@@ -152,8 +152,8 @@ impl Store {
         Ok(Addr(cell))
     }
 
-    /// What is at the end of the bindings from a cell: in every solution it has the cell's tree. This
-    /// takes no memory.
+    /// What is at the end of the bindings from a cell: in every solution it has the cell's tree.
+    /// This takes no memory.
     pub fn look(&self, a: Addr) -> Cell<'_>
         requires { a < length self.now.cells }
         ensures shown { Shows self.now (end_of self.now.bindings a) result }
@@ -181,8 +181,8 @@ impl Store {
         }
     }
 
-    /// The cell at the end of the bindings from a cell, which isn't bound: in every solution both have
-    /// the same tree. This takes no memory.
+    /// The cell at the end of the bindings from a cell, which isn't bound: in every solution both
+    /// have the same tree. This takes no memory.
     pub fn end(&self, a: Addr) -> Addr
         requires { a < length self.now.cells }
         ensures end { result ≡ end_of self.now.bindings a }
@@ -198,8 +198,8 @@ impl Store {
         at
     }
 
-    /// Binds a free variable to a cell in whose tree it doesn't occur. The solutions are then the old
-    /// ones in which both are equal. After want of memory the store is as before.
+    /// Binds a free variable to a cell in whose tree it doesn't occur. The solutions are then the
+    /// old ones in which both are equal. After want of memory the store is as before.
     pub fn bind(&mut self, v: Addr, t: Addr) -> Result<(), AllocError>
         requires { CanBind self.old v t }
         ensures ok { OnOk result (self.new ≡ with_binding self.old v t) }
@@ -227,8 +227,8 @@ impl Store {
         }
     }
 
-    /// The variables that were bound since the mark, which this store gave and didn't undo past, in the
-    /// order of their binding: those that were free then and aren't now. This takes no memory.
+    /// The variables that were bound since the mark, which this store gave and didn't undo past, in
+    /// the order of their binding: those that were free then and aren't now. This takes no memory.
     pub fn bound_since(&self, mark: &Mark) -> &[Addr]
         requires { HasMark self.now mark.now }
         ensures variables { result.now ≡ bound_since self.now mark.now }
@@ -238,8 +238,8 @@ impl Store {
         &self.trail[mark.bindings..]
     }
 
-    /// Takes away the cells and bindings since the mark, which this store gave and didn't undo past: the
-    /// store is as it was. This takes no memory.
+    /// Takes away the cells and bindings since the mark, which this store gave and didn't undo
+    /// past: the store is as it was. This takes no memory.
     pub fn undo(&mut self, mark: Mark)
         requires { HasMark self.old mark }
         ensures before { (before : Equations) → IsLater before self.old

@@ -26,8 +26,8 @@ pub enum Step {
 #[derive(Drop)]
 pub struct Pairs {
     pub pending: SmallVec<(Addr, Addr), 8>,
-    /// The pairs that were taken apart, each of which is passed over when it is met again: it is equal
-    /// where what is pending is.
+    /// The pairs that were taken apart, each of which is passed over when it is met again: it is
+    /// equal where what is pending is.
     pub taken: IndexSet<(Addr, Addr)>,
     // How many pairs are still taken apart without a note.
     unnoted: u32,

@@ -10,8 +10,8 @@ use crate::pairs::{Pairs, Step};
 use pm_store::{Addr, Store};
 use std::alloc::{AllocError, Global};
 
-/// Makes two cells of the store equal by bindings of variables: on true the solutions of the
-/// store are exactly the old ones in which both cells have the same tree. On false there are none of
+/// Makes two cells of the store equal by bindings of variables: on true the solutions of the store
+/// are exactly the old ones in which both cells have the same tree. On false there are none of
 /// these, and the store is as before. After want of memory the store is as before.
 pub fn unify(alloc: Global, store: &mut Store, a: Addr, b: Addr) -> Result<bool, AllocError>
     requires left { a < length store.old.cells }
@@ -236,7 +236,8 @@ mod tests {
         unified
     }
 
-    // How often the two measured things are done: more of them, timed, measure the store and unification.
+    // How often the two measured things are done: more of them, timed, measure the store and
+    // unification.
     const ROUNDS: usize = 100_000;
 
     const TURNS: usize = 10_000;

@@ -1,4 +1,5 @@
--- How problems and tableaux are stored, as a proof may ask of a value: a record as the tuple of its parts.
+-- How problems and tableaux are stored, as a proof may ask of a value: a record as the tuple of its
+-- parts.
 use Rattle.std.specs.Prelude.{◌≡◌, ℕ, zero, suc, ◌⊎◌, List, refl}
 use Rattle.std.specs.Coded.{Coded, code_by, coded_list, coded×, coded⊎, coded_ℕ}
 use Rattle.std.proofs.Common.{inl, inr}

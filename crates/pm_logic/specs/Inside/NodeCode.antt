@@ -6,8 +6,8 @@ use Rattle.pm_logic.specs.Problem.{Literal}
 use Rattle.pm_logic.specs.Inside.LiteralCode.{literal_code}
 use Rattle.pm_logic.specs.Tableau.{Node, Nodes, leaf, inner, no_nodes, more_nodes}
 
--- A node is stored as marks, its children's before its own: a leaf, an inner node whose children come
--- before, or the end of a list of nodes.
+-- A node is stored as marks, its children's before its own: a leaf, an inner node whose children
+-- come before, or the end of a list of nodes.
 abbrev pub Mark : Type 0
 Mark = Literal ⊎ ((Literal × ℕ) ⊎ ℕ)
 

@@ -48,16 +48,19 @@ abbrev pub AreReady : Equations → Resolved → List Place → Type 0
 AreReady s r [] = Unit {0}
 AreReady s r (p ∷ ps) = IsReadyAt s r p ps × AreReady s r ps
 
--- What a resolver keeps while it comes to a cell's term, from what it had first: what is pending gives
--- the cell its row, and the free variables their numbers in their order.
-pub record Comes (s : Equations) (a : ℕ) (first r : Resolved) (table : List Term) (ps : List Place) : Type 0 where
+-- What a resolver keeps while it comes to a cell's term, from what it had first: what is pending
+-- gives the cell its row, and the free variables their numbers in their order.
+pub record Comes (s : Equations) (a : ℕ) (first r : Resolved) (table : List Term)
+    (ps : List Place) : Type 0 where
   pub resolved : IsResolved s r table
   pub ready : AreReady s r ps
   pub row : WillHaveRow r ps a
   pub order : variables_after s r.free ps ≡ with_variables first.free (tree s a)
 
 -- a place was dealt with, and others took its stead
-abbrev pub Proceeds : Equations → Place → Resolved → List Term → List Place → Resolved → List Term → List Place → Type 0
+abbrev pub Proceeds :
+    Equations → Place → Resolved → List Term → List Place → Resolved → List Term → List Place
+    → Type 0
 Proceeds s p r table ps new grown left =
     ((a : ℕ) (first : Resolved) → Comes s a first r table (ps ++ p ∷ [])
     → Comes s a first new grown left)
@@ -74,7 +77,8 @@ AddsPlacesOf s cell ps left = (p : Place) → Contains left p → Contains ps p
     ⊎ IsPart (tree s (cell_of p)) (tree s cell)
 
 -- the rows that were added, and what is pending, are of parts of a cell's tree
-pub record ComesOfParts (s : Equations) (a : ℕ) (table : List Term) (r : Resolved) (grown : List Term) (ps : List Place) : Type 0 where
+pub record ComesOfParts (s : Equations) (a : ℕ) (table : List Term) (r : Resolved)
+    (grown : List Term) (ps : List Place) : Type 0 where
   pub rows : (row : ℕ) → length table ≤ row → row < length grown → (cell : ℕ)
       × HasRow s r.free grown cell row × IsPart (tree s cell) (tree s a)
   pub places : (p : Place) → Contains ps p → IsPart (tree s (cell_of p)) (tree s a)

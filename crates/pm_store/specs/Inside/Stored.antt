@@ -1,4 +1,5 @@
--- How bindings are kept: for each cell what it is bound to, and the bound variables in the order of their binding.
+-- How bindings are kept: for each cell what it is bound to, and the bound variables in the order of
+-- their binding.
 use Rattle.std.specs.Prelude.{◌≡◌, ℕ, List, Option, None, length, map, reverse, slice_index_or, unwrap_or}
 use Rattle.pm_store.specs.Entries.{Entry}
 use Rattle.pm_store.specs.Equations.{Binding, Equations, target_of}

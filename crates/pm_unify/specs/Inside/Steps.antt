@@ -11,21 +11,25 @@ use Rattle.pm_unify.specs.Inside.Support.{IsSupported}
 use Rattle.pm_unify.specs.Inside.Pairs.{IsEqual, pair_size, ArePairsWithin, AreEqual}
 
 -- the pairs before are equal exactly where this holds and the pairs after are equal
-pub record Leaves (s : Equations) (holds : (ℕ → Term) → Type 0) (pending taken pending' taken' : List (ℕ × ℕ)) : Type 0 where
+pub record Leaves (s : Equations) (holds : (ℕ → Term) → Type 0)
+    (pending taken pending' taken' : List (ℕ × ℕ)) : Type 0 where
   pub within : ArePairsWithin s pending'
   pub same : (trees : ℕ → Term) → Solves s trees → AreEqual trees pending taken ↔ (holds trees
       × AreEqual trees pending' taken')
   pub supported : (trees : ℕ → Term) → Solves s trees → holds trees
       → IsSupported (pair_size trees) (IsEqual trees) pending' taken'
 
--- the free variable and a cell that isn't this variable are to be made equal, besides the pairs that are left
-pub record Binds (s : Equations) (v t : ℕ) (pending taken pending' taken' : List (ℕ × ℕ)) : Type 0 where
+-- the free variable and a cell that isn't this variable are to be made equal, besides the pairs
+-- that are left
+pub record Binds (s : Equations) (v t : ℕ)
+    (pending taken pending' taken' : List (ℕ × ℕ)) : Type 0 where
   pub free : IsFree s v
   pub within : t < length s.cells
   pub other : tree s t ≢ var v
   pub leaves : Leaves s (λ trees. trees v ≡ trees t) pending taken pending' taken'
 
-abbrev pub Takes : Equations → List (ℕ × ℕ) → List (ℕ × ℕ) → List (ℕ × ℕ) → List (ℕ × ℕ) → Step → Type 0
+abbrev pub Takes :
+    Equations → List (ℕ × ℕ) → List (ℕ × ℕ) → List (ℕ × ℕ) → List (ℕ × ℕ) → Step → Type 0
 Takes s pending taken pending' taken' Done = (pending' ≡ [])
     × Leaves s (λ trees. ⊤) pending taken pending' taken'
 Takes s pending taken pending' taken' Clash = (trees : ℕ → Term) → Solves s trees
