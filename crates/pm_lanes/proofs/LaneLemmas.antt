@@ -8,7 +8,8 @@ use Rattle.std.specs.Int.Bits.{xor_assoc, xor_self, xor_zero_r, xor_zero_l, or_z
 use Rattle.std.specs.List.{prefix_len, position, position_or_len}
 use Rattle.std.specs.Slice.Scan.{HoldsNowhere, IsFirstPlace, Marks}
 use Rattle.std.specs.Simd.Lanes.{chunk, zip2, sel_l, mask_l, top}
-use Rattle.pm_lanes.specs.Lanes.{agrees, IsZeroWhere}
+use Rattle.pm_lanes.specs.Lanes.{agrees}
+use Rattle.pm_lanes.specs.Inside.Vectors.{IsZeroWhere}
 
 -- ---- lane by lane
 

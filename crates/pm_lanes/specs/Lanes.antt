@@ -1,5 +1,5 @@
 -- At which places four columns of numbers agree with a goal's four numbers.
-use Rattle.std.specs.Prelude.{◌≡◌, ℕ, ◌+◌, ◌<◌, Bool, ◌||◌, ◌&&◌, ◌==◌, List, length, slice_index}
+use Rattle.std.specs.Prelude.{ℕ, Bool, ◌||◌, ◌&&◌, ◌==◌, List, slice_index}
 
 -- two numbers of symbols agree: both are the same, or one is 0, which stands for no symbol
 abbrev pub agrees : ℕ → ℕ → Bool
@@ -12,9 +12,3 @@ is_compatible goal c0 c1 c2 c3 place =
     && agrees (slice_index goal 1) (slice_index c1 place)
     && agrees (slice_index goal 2) (slice_index c2 place)
     && agrees (slice_index goal 3) (slice_index c3 place)
-
--- of a vector with one lane for each of four places from at on, the lanes are 0 whose place passes
--- the test
-pub record IsZeroWhere (test : ℕ → Bool) (at : ℕ) (vector : List ℕ) : Type 0 where
-  pub long : length vector ≡ 4
-  pub each : (k : ℕ) → k < 4 → (slice_index vector k == 0) ≡ test (at + k)

@@ -7,7 +7,8 @@
 
 ghost use Rattle.std.specs.Prelude.{◌≡◌, ◌+◌, ◌<◌, ◌≤◌, ◌==◌, position, length, slice_index};
 ghost use Rattle.std.specs.Slice.Scan.{IsFirstPlace, Marks};
-ghost use Rattle.pm_lanes.specs.Lanes.{IsZeroWhere, agrees, is_compatible};
+ghost use Rattle.pm_lanes.specs.Lanes.{agrees, is_compatible};
+ghost use Rattle.pm_lanes.specs.Inside.Vectors.{IsZeroWhere};
 
 use std::simd::prelude::*;
 

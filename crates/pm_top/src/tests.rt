@@ -1,4 +1,5 @@
 //! Runs on libraries and sinks in memory: the texts and statuses of each end.
+use crate::put::put_text;
 use crate::{Status, run_alone};
 use pm_outside::{MemoryLibrary, MemorySink};
 use std::alloc::{AllocError, Global};
@@ -275,4 +276,24 @@ fn statuses(rt: HostRuntime) {
         assert_eq!(rt; status.code(), code);
         assert_eq!(rt; status.line(), line);
     }
+}
+
+// A text goes out in pieces of 4,096 bytes: where the second put fails, the first piece is out.
+#[test]
+fn pieces(rt: HostRuntime) -> Result<(), Fail> {
+    for length in [4_097, 8_192] {
+        let mut text = Vec::new(rt.alloc());
+        text.resize(length, b'a')?;
+        let mut sink = MemorySink::with_room(rt.alloc(), 16_384)?;
+        sink.fail_at(1, 0)?;
+        assert!(rt; put_text(&mut sink, &text).is_err());
+        assert_eq!(rt; sink.bytes().len(), 4_096);
+    }
+    let mut text = Vec::new(rt.alloc());
+    text.resize(4_096, b'a')?;
+    let mut sink = MemorySink::with_room(rt.alloc(), 4_096)?;
+    sink.fail_at(1, 0)?;
+    assert!(rt; put_text(&mut sink, &text).is_ok());
+    assert_eq!(rt; sink.bytes().len(), 4_096);
+    Ok(())
 }
