@@ -13,6 +13,7 @@ pub mod CycleLemmas
 pub mod FreeLemmas
 pub mod BoundLemmas
 pub mod NumberLemmas
+pub mod OrderLemmas
 pub mod RowLemmas
 pub mod ResolvedLemmas
 pub mod PendingLemmas

@@ -1,13 +1,15 @@
 -- Laws of solutions, and of marks.
-use Rattle.std.specs.Prelude.{◌≡◌, ◌≢◌, ◌↔◌, ℕ, ◌<◌, ◌≤◌, List, Some, Contains, length, slice_get, slice_index_or}
+use Rattle.std.specs.Prelude.{◌≡◌, ◌≢◌, ◌↔◌, ℕ, ◌<◌, ◌≤◌, List, Some, Contains, length, map, slice_get, slice_index_or}
+use Rattle.std.specs.List.{fold, flat_map}
 use Rattle.pm_logic.specs.Term.{Term, var, tree_at}
+use Rattle.pm_logic.specs.Variables.{variables, AreNumberedFrom}
 use Rattle.pm_store.specs.Entries.{Entry}
 use Rattle.pm_store.specs.Equations.{Equations, with_cell, with_binding, IsFree}
 use Rattle.pm_store.specs.Solutions.{Solves, with_tree}
 use Rattle.pm_store.specs.Sound.{IsSound}
 use Rattle.pm_store.specs.Trees.{tree, fill, Occurs}
 use Rattle.pm_store.specs.Marks.{Counts, counts_of, IsLater, HasMark, at_mark, IsEarlier, bound_since}
-use Rattle.pm_store.specs.Resolved.{Resolved, row_of, IsResolved}
+use Rattle.pm_store.specs.Resolved.{Resolved, row_of, IsResolved, numbered, with_variables}
 
 -- the cells' trees solve the store
 abbrev pub TreesSolve : Type 0
@@ -81,6 +83,13 @@ GrowthIsLater = (s : Equations) → Grows s
 
 abbrev pub LaterIsTransitive : Type 0
 LaterIsTransitive = (a b c : Equations) → IsLater a b → IsLater b c → IsLater a c
+
+-- Terms that a resolver numbers one after the other, on from some free variables, have the numbers of
+-- new variables by first occurrence.
+abbrev pub NumberedByFirstOccurrence : Type 0
+NumberedByFirstOccurrence = (free : List ℕ) (ts : List Term)
+    → AreNumberedFrom (length free)
+    (flat_map variables (map (fill (numbered (fold with_variables free ts))) ts))
 
 -- a store that has grown has the marks that it had
 abbrev pub MarksLast : Type 0

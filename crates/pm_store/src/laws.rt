@@ -1,5 +1,5 @@
 //! The laws of solutions and of marks: each is what a function without a body ensures.
-ghost use Rattle.pm_store.specs.Laws.{TreesSolve, TreesAreGeneral, OtherCellsAreOpen, LaterSolutions, FreeVariablesStand, TreesAreOfFreeVariables, LaterTrees, BoundVariablesStay, CyclesHaveNoSolution, ResolvedTermsSolve, ResolvedTermsAreGeneral, GrowthIsLater, LaterIsTransitive, MarksLast, MarksRestore, MarksKeep, MarksNest, BoundSinceTells};
+ghost use Rattle.pm_store.specs.Laws.{TreesSolve, TreesAreGeneral, OtherCellsAreOpen, LaterSolutions, FreeVariablesStand, TreesAreOfFreeVariables, LaterTrees, BoundVariablesStay, CyclesHaveNoSolution, ResolvedTermsSolve, ResolvedTermsAreGeneral, NumberedByFirstOccurrence, GrowthIsLater, LaterIsTransitive, MarksLast, MarksRestore, MarksKeep, MarksNest, BoundSinceTells};
 
 /// A store has a solution: the trees of its cells, in which each free variable stands for itself.
 pub fn trees_solve()
@@ -57,6 +57,12 @@ pub fn resolved_terms_solve()
 /// the solution has for the free variables.
 pub fn resolved_terms_are_general()
     ensures { ResolvedTermsAreGeneral }
+{}
+
+/// A resolver that resolves terms one after the other numbers their new variables by first
+/// occurrence.
+pub fn numbered_by_first_occurrence()
+    ensures { NumberedByFirstOccurrence }
 {}
 
 /// A store with one more cell or binding is later than it was.
