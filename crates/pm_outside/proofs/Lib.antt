@@ -2,3 +2,4 @@ pub mod Fetches
 pub mod Lookups
 pub mod Puts
 pub mod Reading
+pub mod Writing

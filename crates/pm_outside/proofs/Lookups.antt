@@ -13,7 +13,7 @@ use Rattle.std.specs.String.{string_bytes, string_cmp}
 use Rattle.std.specs.Global.{Vec, Global}
 use Rattle.std.specs.declared.string.String.{String}
 use Rattle.std.proofs.lemmas.Map.Text.{btree_map_updates_text, is_eq-slice_cmp}
-use Rattle.pm_outside.specs.MemoryLibrary.{files_of}
+use Rattle.pm_outside.specs.Inside.MemoryLibrary.{files_of}
 
 -- a list of entries, each shown through two functions, finds what the entries find
 pub find-shown : {K L X Y : Type 0} (R : L → L → Ordering) (key : K → L) (value : X → Y) (q : L) (es : List (K × X))

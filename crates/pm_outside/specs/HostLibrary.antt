@@ -1,22 +1,14 @@
--- A library that tells no content, and what one read does.
-use Rattle.std.specs.Prelude.{◌≡◌, ◌⊎◌, ℕ, List, ◌++◌, length, Option, None}
-use Rattle.std.specs.Io.KnownBytes.{Consumes, IsAtEnd}
-use Rattle.pm_outside.specs.declared.library.FetchFault.{FetchFault}
-use Rattle.pm_outside.specs.declared.library.FetchFault.TheVariants.{Failed, Memory}
-use Rattle.pm_outside.specs.Outside.{Files}
+-- The library of the host, as its callers see it.
+use Rattle.std.specs.Prelude.{None}
+use Rattle.pm_outside.specs.declared.counts.Counts.{Counts}
+use Rattle.pm_outside.specs.Outside.{LibraryView}
 
--- no files are told
-abbrev pub untold : Option Files
-untold = None
-
--- new is old and so many bytes, which the reader had before and lost; it gives none only at its end
-pub record Reads (before after : Option (List ℕ)) (old new : List ℕ) (count : ℕ) : Type 0 where
-  pub piece : List ℕ
-  pub appended : new ≡ old ++ piece
-  pub counted : length piece ≡ count
-  pub consumed : Consumes before after piece
-  pub ended : count ≡ 0 → IsAtEnd after
-
--- a fault of a file that is there
-abbrev pub IsReadFault : FetchFault → Type 0
-IsReadFault fault = (fault ≡ Failed) ⊎ (fault ≡ Memory)
+-- its counts; it tells no files
+abbrev pub host_view : Counts → LibraryView
+host_view counts =
+    record {
+      faults = counts.faults;
+      misses = counts.misses;
+      longs = counts.longs;
+      told = None;
+    }

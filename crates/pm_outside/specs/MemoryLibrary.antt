@@ -1,17 +1,14 @@
 -- A library that is held in memory, as its callers see it.
-use Rattle.std.specs.Prelude.{refl, ◌≡◌, ℕ, List, map, length, Option, None, Some, Result, Ok, Err, MatchResult, if◌then◌else◌, nat_le}
+use Rattle.std.specs.Prelude.{◌≡◌, ℕ, List, length, Option, None, Some, Result, Ok, Err, MatchResult, if◌then◌else◌, nat_le}
 use Rattle.std.specs.Ordering.{nat_cmp}
 use Rattle.std.specs.FinMap as map
 use Rattle.std.specs.FinSet as set
-use Rattle.std.specs.declared.string.String.{String}
-use Rattle.std.specs.String.{string_bytes}
-use Rattle.std.specs.Global.{Vec, Global}
-use Rattle.std.specs.Coded.{Coded, code_by, coded×, coded_list, coded_ℕ}
+use Rattle.std.specs.Global.{Vec}
 use Rattle.pm_outside.specs.declared.counts.Counts.{Counts}
 use Rattle.pm_outside.specs.declared.library.FetchFault.{FetchFault}
 use Rattle.pm_outside.specs.declared.library.FetchFault.TheVariants.{Missing, TooLong, Failed, Memory}
 use Rattle.pm_outside.specs.Counts.{next_count, no_counts, counts_after}
-use Rattle.pm_outside.specs.Outside.{Files}
+use Rattle.pm_outside.specs.Outside.{Files, LibraryView}
 
 -- its files, the numbers of the fetches that fail, the number of the next fetch, and the counts
 pub record LibraryState : Type 0 where
@@ -20,28 +17,19 @@ pub record LibraryState : Type 0 where
   pub calls : ℕ
   pub counts : Counts
 
--- it is stored as the tuple of its fields
-abbrev pub library_code : Coded LibraryState
-library_code =
-    code_by ((Files × set.FinSet nat_cmp) × (ℕ × (ℕ × (ℕ × ℕ))))
-    (coded× (coded× (map.code (coded_list coded_ℕ) (coded_list coded_ℕ)) (set.code coded_ℕ))
-    (coded× coded_ℕ (coded× coded_ℕ (coded× coded_ℕ coded_ℕ))))
-    (λ s. ((s.files, s.failing), (s.calls, (s.counts.faults, (s.counts.misses, s.counts.longs)))))
-    (λ t. record {
-      files = t.0.0;
-      failing = t.0.1;
-      calls = t.1.0;
-      counts = record { faults = t.1.1.0; misses = t.1.1.1.0; longs = t.1.1.1.1 };
-    })
-    (λ _. refl)
+-- its counts, and its files, which it tells
+abbrev pub memory_view : LibraryState → LibraryView
+memory_view library =
+    record {
+      faults = library.counts.faults;
+      misses = library.counts.misses;
+      longs = library.counts.longs;
+      told = Some library.files;
+    }
 
 -- no file and no failing fetch, and each count is 0
 abbrev pub empty_library : LibraryState
 empty_library = record { files = map.empty; failing = set.empty; calls = 0; counts = no_counts }
-
--- the files that these names and contents make
-abbrev pub files_of : List (String Global × Vec ℕ) → Files
-files_of stored = map.from_entries (map (λ file. (string_bytes file.0, file.1.items)) stored)
 
 -- the bytes, where the file is there and has at most so many
 abbrev pub answer_of : Option (List ℕ) → ℕ → Result (List ℕ) FetchFault
@@ -55,8 +43,9 @@ next_answer library name limit =
     then Err Failed
     else answer_of (map.get library.files name) limit
 
--- the library after a fetch to which this is the answer
-abbrev pub after_fetch : LibraryState → Result (List ℕ) FetchFault → LibraryState
+-- the library after a fetch with this answer: as before where there was no memory
+abbrev pub after_fetch : {A : Type 0} → LibraryState → Result A FetchFault → LibraryState
+after_fetch library (Err Memory) = library
 after_fetch library answer =
     record library { calls = next_count library.calls; counts = counts_after library.counts answer }
 

@@ -1,8 +1,7 @@
 -- A sink that is held in memory, as its callers see it.
-use Rattle.std.specs.Prelude.{refl, ℕ, ◌-◌, min, Bool, ◌||◌, List, [], ◌++◌, length, take, Option, None, Some, is_some, if◌then◌else◌, nat_lt}
+use Rattle.std.specs.Prelude.{ℕ, ◌-◌, min, Bool, ◌||◌, List, [], ◌++◌, length, take, Option, None, Some, is_some, if◌then◌else◌, nat_lt}
 use Rattle.std.specs.Ordering.{nat_cmp}
 use Rattle.std.specs.FinMap as map
-use Rattle.std.specs.Coded.{Coded, code_by, coded×, coded_list, coded_ℕ}
 use Rattle.pm_outside.specs.Counts.{next_count}
 
 -- the bytes that it has got, the room that is left, how much each failing put takes at most by the
@@ -13,22 +12,6 @@ pub record SinkState : Type 0 where
   pub failing : map.FinMap nat_cmp ℕ
   pub calls : ℕ
   pub faults : ℕ
-
--- it is stored as the tuple of its fields
-abbrev pub sink_code : Coded SinkState
-sink_code =
-    code_by ((List ℕ × ℕ) × (map.FinMap nat_cmp ℕ × (ℕ × ℕ)))
-    (coded× (coded× (coded_list coded_ℕ) coded_ℕ)
-    (coded× (map.code coded_ℕ coded_ℕ) (coded× coded_ℕ coded_ℕ)))
-    (λ s. ((s.written, s.room), (s.failing, (s.calls, s.faults))))
-    (λ t. record {
-      written = t.0.0;
-      room = t.0.1;
-      failing = t.1.0;
-      calls = t.1.1.0;
-      faults = t.1.1.1;
-    })
-    (λ _. refl)
 
 -- no byte and no failing put, and each count is 0
 abbrev pub empty_sink : ℕ → SinkState

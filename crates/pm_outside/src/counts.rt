@@ -1,6 +1,7 @@
 //! The counts of a library: its faults, its missing files, and those over a limit.
-ghost use Rattle.std.specs.Prelude.{◌≡◌, ◌≤◌};
+ghost use Rattle.std.specs.Prelude.{◌≡◌, IsErrOf};
 ghost use Rattle.pm_outside.specs.Counts.{counts_after, no_counts};
+ghost use Rattle.pm_outside.specs.Outside.{CountsOnly};
 
 use crate::library::FetchFault;
 
@@ -27,9 +28,12 @@ impl Counts {
     /// Counts the cause of this answer. Bytes and want of memory are not counted.
     pub fn count(&mut self, answer: &Result<Vec<u8>, FetchFault>)
         ensures counted { self.new ≡ counts_after self.old answer.now }
-        ensures faults { self.old.faults ≤ self.new.faults }
-        ensures misses { self.old.misses ≤ self.new.misses }
-        ensures longs { self.old.longs ≤ self.new.longs }
+        ensures faults { CountsOnly (IsErrOf answer.now FetchFault.Failed)
+            self.old.faults self.new.faults }
+        ensures misses { CountsOnly (IsErrOf answer.now FetchFault.Missing)
+            self.old.misses self.new.misses }
+        ensures longs { CountsOnly (IsErrOf answer.now FetchFault.TooLong)
+            self.old.longs self.new.longs }
     {
         match answer {
             Err(FetchFault::Missing) => self.misses = self.misses.saturating_add(1),

@@ -1,17 +1,17 @@
 //! The library of the host: its files.
-ghost use Rattle.std.specs.Prelude.{◌≡◌, ◌≢◌, ℕ, List, ◌+◌, ◌^◌, ◌≤◌, ◌<◌, None, Err, vec_len, IfErr, Some, length, IfOk, IfSome, IsSomeAnd, IsErrOf};
-ghost use Rattle.std.specs.FinMap as map;
+ghost use Rattle.std.specs.Prelude.{◌≡◌, ◌≢◌, ℕ, List, ◌+◌, ◌^◌, ◌≤◌, ◌<◌, None, Err, vec_len, IfErr, length, IfOk, IfSome, IsOk, IsOkAnd, IsErrAnd, IsErrOf};
 ghost use Rattle.std.specs.Io.KnownBytes.{Consumes};
 ghost use Rattle.std.specs.IoError.{error_kind};
 ghost use Rattle.pm_outside.specs.Counts.{counts_after, no_counts};
-ghost use Rattle.pm_outside.specs.HostLibrary.{untold, Reads, IsReadFault};
-ghost use Rattle.pm_outside.specs.Outside.{Rose};
+ghost use Rattle.pm_outside.specs.HostLibrary.{host_view};
+ghost use Rattle.pm_outside.specs.Inside.Reading.{Reads, IsReadFault};
+ghost use Rattle.pm_outside.specs.Outside.{IsFetch};
 
 use crate::counts::Counts;
 use crate::library::{FetchFault, Library};
 use std::alloc::Global;
 use std::fs;
-use std::io::{Error, ErrorKind, Read};
+use std::io::{self, Error, ErrorKind, Read};
 use std::marker::Model;
 use std::rt::Files;
 
@@ -52,37 +52,37 @@ impl<'r, R: Files> Library for HostLibrary<'r, R> {
 
     ghost longs = { λ counts. counts.longs };
 
-    ghost told = { λ _. untold };
+    ghost told = { λ _. None };
 
     /// The bytes of the file at this path. The answer is `Missing` where no file is found there,
     /// `TooLong` where it has more bytes than the limit, `Memory` where there is no memory for
     /// them, and `Failed` at every other fault of the system, as at a folder.
     fn fetch(&mut self, alloc: Global, name: &str, limit: u64) -> Result<Vec<u8>, FetchFault>
         ensures counts { self.new ≡ counts_after self.old result }
-
-        // What every library ensures.
-        ensures within { IfOk result (λ bytes. length bytes.items ≤ limit) }
-        ensures bytes { IfOk result (λ bytes.
-            IfSome untold (λ files. map.get files name.now ≡ Some bytes.items)) }
-        ensures missing { IsErrOf result FetchFault.Missing → Rose self.old.misses self.new.misses
-            × IfSome untold (λ files. map.get files name.now ≡ None) }
-        ensures too_long { IsErrOf result FetchFault.TooLong → Rose self.old.longs self.new.longs
-            × IfSome untold (λ files. IsSomeAnd (map.get files name.now) (λ bytes. limit < length bytes)) }
-        ensures failed { IsErrOf result FetchFault.Failed → Rose self.old.faults self.new.faults }
-        ensures faults { self.old.faults ≤ self.new.faults }
-        ensures misses { self.old.misses ≤ self.new.misses }
-        ensures longs { self.old.longs ≤ self.new.longs }
+        ensures fetched { IsFetch (host_view self.old) (host_view self.new) name.now limit result }
     {
-        let answer = read_file(self.rt, alloc, name, limit);
+        let answer = read_file(fs::open(self.rt, name), alloc, limit);
         self.counts.count(&answer);
         answer
     }
 }
 
-fn read_file<R: Files>(rt: &R, alloc: Global, name: &str, limit: u64) -> Result<Vec<u8>, FetchFault>
+// The bytes of what opening a file gave.
+fn read_file<F: Read + Drop>(
+    opened: io::Result<F>,
+    alloc: Global,
+    limit: u64,
+) -> Result<Vec<u8>, FetchFault>
     ensures within { IfOk result (λ bytes. length bytes.items ≤ limit) }
+    ensures whole { IfOk result (λ bytes. IsOkAnd opened (λ file.
+        IfSome (F.remaining file) (λ content. bytes.items ≡ content))) }
+    ensures too_long { IsErrOf result FetchFault.TooLong → IsOkAnd opened (λ file.
+        IfSome (F.remaining file) (λ content. limit < length content)) }
+    ensures missing { IsErrOf result FetchFault.Missing
+        → IsErrAnd opened (λ error. error_kind error ≡ ErrorKind.NotFound) }
+    ensures memory { IsErrOf result FetchFault.Memory → IsOk opened }
 {
-    match fs::open(rt, name) {
+    match opened {
         Ok(mut file) => read_at_most(&mut file, alloc, limit),
         Err(error) => Err(cause_of(&error)),
     }
@@ -103,11 +103,13 @@ fn cause_of(error: &Error) -> FetchFault
 // Reads to the end, or one byte past the limit. Each turn takes at least one byte.
 fn read_at_most<F: Read>(file: &mut F, alloc: Global, limit: u64) -> Result<Vec<u8>, FetchFault>
     ensures within { IfOk result (λ bytes. length bytes.items ≤ limit) }
-    ensures whole { IfOk result (λ bytes. IfSome (F.remaining file.old) (λ content. bytes.items ≡ content)) }
+    ensures whole { IfOk result (λ bytes.
+        IfSome (F.remaining file.old) (λ content. bytes.items ≡ content)) }
     ensures too_long { IsErrOf result FetchFault.TooLong
         → IfSome (F.remaining file.old) (λ content. limit < length content) }
     ensures stops { IsErrOf result FetchFault.TooLong
-        → (piece : List ℕ) × (length piece ≤ limit + 1) × Consumes (F.remaining file.old) (F.remaining file.new) piece }
+        → (piece : List ℕ) × (length piece ≤ limit + 1)
+        × Consumes (F.remaining file.old) (F.remaining file.new) piece }
     ensures found { result ≢ Err FetchFault.Missing }
 {
     let mut bytes = Vec::new(alloc);
@@ -125,14 +127,18 @@ fn read_at_most<F: Read>(file: &mut F, alloc: Global, limit: u64) -> Result<Vec<
     Err(FetchFault::TooLong)
 }
 
-// Reads at most so many bytes onto the end of these, and says how many.
+// Reads at most so many bytes onto the end of these, and says how many. Where the read fails, the
+// bytes are left longer, and want of memory leaves them and the reader as before.
 fn read_piece<F: Read>(file: &mut F, bytes: &mut Vec<u8>, most: usize) -> Result<usize, FetchFault>
     requires some { 0 < most }
     requires fits { vec_len bytes.old + most < 2 ^ 64 }
     ensures within { IfOk result (λ count. count ≤ most) }
     ensures reads { IfOk result
         (Reads (F.remaining file.old) (F.remaining file.new) bytes.old.items bytes.new.items) }
-    ensures failed { IfErr result IsReadFault }
+    ensures faults { IfErr result IsReadFault }
+    ensures memory { IsErrOf result FetchFault.Memory
+        → (file.new ≡ file.old) × (bytes.new.items ≡ bytes.old.items) }
+    ensures failed { IsErrOf result FetchFault.Failed → vec_len bytes.old < vec_len bytes.new }
 {
     let start = bytes.len();
     if bytes.resize(start + most, 0).is_err() {

@@ -1,9 +1,11 @@
 //! The sink of the host: standard output.
-ghost use Rattle.std.specs.Prelude.{◌≡◌, ℕ, ◌≤◌, None, MatchResult, OnOk, OnErr};
+ghost use Rattle.std.specs.Prelude.{◌≡◌, ℕ, ◌≤◌, take, None, MatchResult, OnOk, OnErr};
+ghost use Rattle.std.specs.Io.KnownBytes as known;
 ghost use Rattle.pm_outside.specs.Counts.{next_count};
 ghost use Rattle.pm_outside.specs.Outside.{Appends, AppendsPrefix, Rose};
 
 use crate::sink::{PutFault, Sink};
+use std::io::{self, Write};
 use std::marker::Model;
 
 /// The standard output. It doesn't tell its bytes.
@@ -37,15 +39,18 @@ impl<'r, R: Print> Sink for HostSink<'r, R> {
 
     /// Writes all of the bytes, or fails where the system does.
     fn put(&mut self, bytes: &[u8]) -> Result<(), PutFault>
-        ensures count { MatchResult result (λ _. self.new ≡ self.old) (λ _. self.new ≡ next_count self.old) }
+        ensures count { MatchResult result
+            (λ _. self.new ≡ self.old)
+            (λ _. self.new ≡ next_count self.old) }
 
         // What every sink ensures.
         ensures all { OnOk result (Appends None None bytes.now) }
         ensures prefix { OnErr result (AppendsPrefix None None bytes.now) }
         ensures failed { OnErr result (Rose self.old self.new) }
+        ensures unfailed { OnOk result (self.new ≡ self.old) }
         ensures faults { self.old ≤ self.new }
     {
-        let answer = write_whole(self.rt, bytes);
+        let answer = write_whole(&mut io::writer(self.rt), bytes);
         if answer.is_err() {
             self.faults = self.faults.saturating_add(1);
         }
@@ -54,12 +59,18 @@ impl<'r, R: Print> Sink for HostSink<'r, R> {
 }
 
 // Each turn writes at least one byte.
-fn write_whole<R: Print>(rt: &R, bytes: &[u8]) -> Result<(), PutFault> {
+fn write_whole<W: Write>(writer: &mut W, bytes: &[u8]) -> Result<(), PutFault>
+    ensures all { OnOk result
+        (known.Appends (W.contents writer.old) (W.contents writer.new) bytes.now) }
+    ensures prefix { OnErr result ((n : ℕ)
+        × known.Appends (W.contents writer.old) (W.contents writer.new) (take n bytes.now)) }
+{
     let mut rest = bytes;
     while !rest.is_empty() {
-        match rt.write_some(rest) {
-            Ok(0) | Err(_) => return Err(PutFault::Failed),
+        match writer.write(rest) {
+            Ok(0) => return Err(PutFault::Failed),
             Ok(count) => rest = &rest[count..],
+            Err(_) => return Err(PutFault::Failed),
         }
     }
     Ok(())

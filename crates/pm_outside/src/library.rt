@@ -1,7 +1,6 @@
 //! What a run reads: files by their names.
-ghost use Rattle.std.specs.Prelude.{◌≡◌, ℕ, ◌<◌, ◌≤◌, Option, None, Some, length, IfOk, IfSome, IsSomeAnd, IsErrOf};
-ghost use Rattle.std.specs.FinMap as map;
-ghost use Rattle.pm_outside.specs.Outside.{Files, Rose};
+ghost use Rattle.std.specs.Prelude.{ℕ, Option};
+ghost use Rattle.pm_outside.specs.Outside.{Files, IsFetch, library_view};
 
 use std::alloc::Global;
 use thiserror::Error;
@@ -37,22 +36,9 @@ pub trait Library {
 
     ghost told: { Self → Option Files };
 
-    /// The bytes of the file of this name, at most `limit` of them.
+    /// The bytes of the file of this name, at most `limit` of them. Each fault has its cause, and a
+    /// count changes only with its own fault.
     fn fetch(&mut self, alloc: Global, name: &str, limit: u64) -> Result<Vec<u8>, FetchFault>
-        ensures within { IfOk result (λ bytes. length bytes.items ≤ limit) }
-        ensures bytes { IfOk result (λ bytes.
-            IfSome (told self.old) (λ files. map.get files name.now ≡ Some bytes.items)) }
-
-        // Each fault has its cause.
-        ensures missing { IsErrOf result FetchFault.Missing → Rose (misses self.old) (misses self.new)
-            × IfSome (told self.old) (λ files. map.get files name.now ≡ None) }
-        ensures too_long { IsErrOf result FetchFault.TooLong → Rose (longs self.old) (longs self.new)
-            × IfSome (told self.old) (λ files. IsSomeAnd (map.get files name.now) (λ bytes. limit < length bytes)) }
-        ensures failed { IsErrOf result FetchFault.Failed → Rose (faults self.old) (faults self.new) }
-
-        // No count falls, and what is told stays.
-        ensures faults { faults self.old ≤ faults self.new }
-        ensures misses { misses self.old ≤ misses self.new }
-        ensures longs { longs self.old ≤ longs self.new }
-        ensures told { told self.new ≡ told self.old };
+        ensures fetched { let view = library_view faults misses longs told in
+            IsFetch (view self.old) (view self.new) name.now limit result };
 }

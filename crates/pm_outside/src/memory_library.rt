@@ -1,10 +1,10 @@
 //! A library in memory.
-ghost use Rattle.std.specs.Prelude.{◌≡◌, ℕ, ◌<◌, ◌≤◌, None, Some, Err, length, IfOk, OnOk, OnErr, IfSome, IsSomeAnd, IsErrOf};
+ghost use Rattle.std.specs.Prelude.{◌≡◌, ◌≤◌, None, Some, Err, IfOk, OnOk, OnErr};
 ghost use Rattle.std.specs.Option.{option_copied};
 ghost use Rattle.std.specs.FinMap as map;
 ghost use Rattle.std.specs.FinSet as set;
-ghost use Rattle.pm_outside.specs.MemoryLibrary.{empty_library, next_answer, after_fetch, Answers};
-ghost use Rattle.pm_outside.specs.Outside.{Files, Rose};
+ghost use Rattle.pm_outside.specs.MemoryLibrary.{empty_library, next_answer, after_fetch, memory_view, Answers};
+ghost use Rattle.pm_outside.specs.Outside.{IsFetch};
 
 use crate::counts::Counts;
 use crate::library::{FetchFault, Library};
@@ -25,7 +25,8 @@ pub struct MemoryLibrary {
 
 impl Model for MemoryLibrary {
     ghost use Rattle.std.specs.FinSet as set;
-    ghost use Rattle.pm_outside.specs.MemoryLibrary.{LibraryState, library_code, files_of};
+    ghost use Rattle.pm_outside.specs.MemoryLibrary.{LibraryState};
+    ghost use Rattle.pm_outside.specs.Inside.MemoryLibrary.{library_code, files_of};
 
     ghost Value = { LibraryState };
 
@@ -69,7 +70,8 @@ impl MemoryLibrary {
     /// From now on the fetch with this number fails, whatever its name. Fetches are counted from 0.
     /// Where there is no memory, the library stays as it was.
     pub fn fail_at(&mut self, call: u64) -> Result<(), AllocError>
-        ensures ok { OnOk result (self.new ≡ record self.old { failing = set.insert self.old.failing call }) }
+        ensures ok { OnOk result
+            (self.new ≡ record self.old { failing = set.insert self.old.failing call }) }
         ensures err { OnErr result (self.new ≡ self.old) }
     {
         self.failing.push(call)?;
@@ -124,28 +126,18 @@ impl Library for MemoryLibrary {
 
     /// A copy of the bytes of the file. The answer is `Failed` in a call that `fail_at` named, else
     /// `Missing` where no file has this name, else `TooLong` where the file has more bytes than the
-    /// limit, and `Memory` where there is no memory for the copy. The library is afterwards as if
-    /// there had been memory.
+    /// limit, and `Memory` where there is no memory for the copy. After `Memory` the library is as
+    /// before.
     fn fetch(&mut self, alloc: Global, name: &str, limit: u64) -> Result<Vec<u8>, FetchFault>
         ensures answer { Answers result (next_answer self.old name.now limit) }
-        ensures state { self.new ≡ after_fetch self.old (next_answer self.old name.now limit) }
-
-        // What every library ensures.
-        ensures within { IfOk result (λ bytes. length bytes.items ≤ limit) }
-        ensures bytes { IfOk result (λ bytes. map.get self.old.files name.now ≡ Some bytes.items) }
-        ensures missing { IsErrOf result FetchFault.Missing → Rose self.old.counts.misses self.new.counts.misses
-            × (map.get self.old.files name.now ≡ None) }
-        ensures too_long { IsErrOf result FetchFault.TooLong → Rose self.old.counts.longs self.new.counts.longs
-            × IsSomeAnd (map.get self.old.files name.now) (λ bytes. limit < length bytes) }
-        ensures failed { IsErrOf result FetchFault.Failed → Rose self.old.counts.faults self.new.counts.faults }
-        ensures faults { self.old.counts.faults ≤ self.new.counts.faults }
-        ensures misses { self.old.counts.misses ≤ self.new.counts.misses }
-        ensures longs { self.old.counts.longs ≤ self.new.counts.longs }
-        ensures told { Some self.new.files ≡ Some self.old.files }
+        ensures state { self.new ≡ after_fetch self.old result }
+        ensures fetched { IsFetch (memory_view self.old) (memory_view self.new) name.now limit result }
     {
         let answer = self.answer(alloc, name, limit);
-        self.calls = self.calls.saturating_add(1);
-        self.counts.count(&answer);
+        if !matches!(answer, Err(FetchFault::Memory)) {
+            self.calls = self.calls.saturating_add(1);
+            self.counts.count(&answer);
+        }
         answer
     }
 }

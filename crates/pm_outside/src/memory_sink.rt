@@ -23,7 +23,8 @@ pub struct MemorySink {
 impl Model for MemorySink {
     ghost use Rattle.std.specs.Prelude.{◌+◌, ◌≤◌, vec_len, vec_capacity};
     ghost use Rattle.std.specs.FinMap as map;
-    ghost use Rattle.pm_outside.specs.MemorySink.{SinkState, sink_code};
+    ghost use Rattle.pm_outside.specs.MemorySink.{SinkState};
+    ghost use Rattle.pm_outside.specs.Inside.MemorySink.{sink_code};
 
     ghost Value = { SinkState };
 
@@ -114,9 +115,12 @@ impl Sink for MemorySink {
         ensures state { self.new ≡ after_put self.old bytes.now }
 
         // What every sink ensures.
-        ensures all { OnOk result (Appends (Some self.old.written) (Some self.new.written) bytes.now) }
-        ensures prefix { OnErr result (AppendsPrefix (Some self.old.written) (Some self.new.written) bytes.now) }
+        ensures all { OnOk result
+            (Appends (Some self.old.written) (Some self.new.written) bytes.now) }
+        ensures prefix { OnErr result
+            (AppendsPrefix (Some self.old.written) (Some self.new.written) bytes.now) }
         ensures failed { OnErr result (Rose self.old.faults self.new.faults) }
+        ensures unfailed { OnOk result (self.new.faults ≡ self.old.faults) }
         ensures faults { self.old.faults ≤ self.new.faults }
     {
         let taken = self.taken(bytes);

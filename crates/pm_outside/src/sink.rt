@@ -24,7 +24,9 @@ pub trait Sink {
     /// Takes all of the bytes, or fails and takes a prefix of them. It takes no memory.
     fn put(&mut self, bytes: &[u8]) -> Result<(), PutFault>
         ensures all { OnOk result (Appends (written self.old) (written self.new) bytes.now) }
-        ensures prefix { OnErr result (AppendsPrefix (written self.old) (written self.new) bytes.now) }
+        ensures prefix { OnErr result
+            (AppendsPrefix (written self.old) (written self.new) bytes.now) }
         ensures failed { OnErr result (Rose (faults self.old) (faults self.new)) }
+        ensures unfailed { OnOk result (faults self.new ≡ faults self.old) }
         ensures faults { faults self.old ≤ faults self.new };
 }

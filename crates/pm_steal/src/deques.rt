@@ -2,6 +2,7 @@
 ghost use Rattle.std.specs.Prelude.{◌≡◌, ℕ, ◌<◌, ◌≤◌, [], ◌∷◌, ◌++◌, length, map, replicate, count_by, slice_index, slice_index_or, slice_set, IfOk, OnOk, IfSome, IfNone};
 ghost use Rattle.std.specs.Bool.{OnTrue, OnFalse};
 ghost use Rattle.crossbeam_deque.specs.Handles.{taken, view, stealer_deque, worker_deque};
+ghost use Rattle.crossbeam_deque.specs.Steals.{MatchSteal};
 ghost use Rattle.pm_steal.specs.History.{HeldAtMost, is_push};
 ghost use Rattle.pm_steal.specs.Shown.{AreMade, HasCause, ReachesAll, SameDeque, SameDeques, SameOtherCounts, after_steal, hand_steps, reach_counts, reach_len, reach_steps};
 ghost use Rattle.pm_steal.specs.declared.steps.Step.TheVariants.{Push, Pop};
@@ -20,6 +21,22 @@ pub enum Stolen {
     Empty,
     /// Nothing, for that reason or since others took numbers from it in the meantime.
     Again,
+}
+
+impl Stolen {
+    // What the answer of a deque says.
+    fn from_steal(answer: Steal<u64>) -> Stolen
+        ensures { MatchSteal answer
+            (result ≡ Stolen.Empty)
+            (result ≡ Stolen.Again)
+            (λ row. result ≡ Stolen.Row row) }
+    {
+        match answer {
+            Steal::Success(row) => Stolen::Row(row),
+            Steal::Empty => Stolen::Empty,
+            Steal::Retry => Stolen::Again,
+        }
+    }
 }
 
 /// One hand and one reach for each worker. Victim `i` of each reach is the deque of hand `i`.
@@ -50,7 +67,8 @@ impl Hand {
     /// which comes only after as many pushes as it has room for.
     pub fn push(&mut self, row: u64) -> bool
         ensures deque { SameDeque self.old self.new }
-        ensures pushed { OnTrue result (hand_steps self.new ≡ hand_steps self.old ++ Push row ∷ []) }
+        ensures pushed { OnTrue result
+            (hand_steps self.new ≡ hand_steps self.old ++ Push row ∷ []) }
         ensures refused { OnFalse result (hand_steps self.new ≡ hand_steps self.old) }
         ensures full { OnFalse result (CAPACITY ≤ count_by is_push (hand_steps self.old)) }
     {
@@ -60,7 +78,8 @@ impl Hand {
     /// Takes the newest number. None where at one moment the deque was empty.
     pub fn pop(&mut self) -> Option<u64>
         ensures deque { SameDeque self.old self.new }
-        ensures popped { IfSome result (λ row. hand_steps self.new ≡ hand_steps self.old ++ Pop row ∷ []) }
+        ensures popped { IfSome result (λ row.
+            hand_steps self.new ≡ hand_steps self.old ++ Pop row ∷ []) }
         ensures unchanged { IfNone result (hand_steps self.new ≡ hand_steps self.old) }
         ensures empty { IfNone result (HeldAtMost 0 (hand_steps self.old)) }
     {
@@ -83,13 +102,12 @@ impl Grip {
     fn steal(&mut self) -> Stolen
         ensures deque { stealer_deque self.new.thief ≡ stealer_deque self.old.thief }
         ensures steps { view self.new.pass ≡ after_steal result (view self.old.pass) }
-        ensures cause { HasCause result (view self.old.pass) (taken self.old.pass) (taken self.new.pass) }
+        ensures cause { HasCause result
+            (view self.old.pass)
+            (taken self.old.pass)
+            (taken self.new.pass) }
     {
-        match self.thief.steal_as::<Stealing>(&mut self.pass) {
-            Steal::Success(row) => Stolen::Row(row),
-            Steal::Empty => Stolen::Empty,
-            Steal::Retry => Stolen::Again,
-        }
+        Stolen::from_steal(self.thief.steal_as::<Stealing>(&mut self.pass))
     }
 }
 

@@ -1,5 +1,9 @@
 use Rattle.std.proofs.Common.{length}
+use Rattle.pm_outside.proofs.Writing.{HasWritten}
 use Rattle.pm_outside.proofs.host_sink.write_whole.Given as goal
+
+abbrev pub invariant-loop-rest : goal.invariant-loop-rest
+invariant-loop-rest g l = HasWritten (g.W.Write.contents l.initial.writer) (g.W.Write.contents l.writer) l.bytes l.rest
 
 abbrev pub decreases-loop-rest : goal.decreases-loop-rest
 decreases-loop-rest g l = length l.rest

@@ -1,7 +1,7 @@
 use Rattle.std.proofs.Common.{◌≡◌, ap, ◌∙◌}
 use Rattle.std.specs.FinMap.{insert}
 use Rattle.std.specs.String.{string_bytes}
-use Rattle.pm_outside.specs.MemoryLibrary.{files_of}
+use Rattle.pm_outside.specs.Inside.MemoryLibrary.{files_of}
 use Rattle.pm_outside.proofs.Fetches.{with_files}
 use Rattle.pm_outside.proofs.Lookups.{files_of-insert}
 use Rattle.pm_outside.specs.contracts.memory_library.MemoryLibrary.{the_view}

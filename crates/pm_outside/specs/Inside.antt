@@ -1,0 +1,4 @@
+-- Models of private code: no public contract names them.
+pub mod MemoryLibrary
+pub mod MemorySink
+pub mod Reading
