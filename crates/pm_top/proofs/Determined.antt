@@ -35,7 +35,7 @@ refusal_once bytes text second a b =
     a.3 ∙ ap₂ (λ rest kind. input_error (line_of (before bytes rest)) (column_of (before bytes rest)) kind) same.0 same.1 ∙ sym b.3
 
 not_refused : (bytes text : List ℕ) (problem : logic.Problem) → IsRefusal bytes text → IsProblemIn standard_limits bytes problem → ⊥
-not_refused bytes text problem refused read = read.sound refused.0 refused.1 refused.2.is
+not_refused bytes text problem refused read = read.text.sound refused.0 refused.1 refused.2.is
 
 problem_once : (bytes : List ℕ) (p q : logic.Problem) → IsProblemIn standard_limits bytes p → IsProblemIn standard_limits bytes q → p ≡ q
 problem_once bytes p q a b = problem_is_determined standard_limits bytes p q a b

@@ -9,7 +9,7 @@ pub record HasPut (old new : Option (List ℕ)) (before now : ℕ) (text rest : 
   pub front : List ℕ
   pub parts : text ≡ front ++ rest
   pub written : Appends old new front
-  pub counted : before ≤ now
+  pub counted : now ≡ before
 
 append_told : (old : Option (List ℕ)) (a b : List ℕ) → option_map (λ written. written ++ b) (option_map (λ written. written ++ a) old) ≡ option_map (λ written. written ++ (a ++ b)) old
 append_told None a b = refl
@@ -20,14 +20,14 @@ Appends-then old mid new a b first second =
     second ∙ ap (λ (m : Option (List ℕ)). option_map (λ written. written ++ b) m) first ∙ append_told old a b
 
 pub puts_on : (old mid new : Option (List ℕ)) (before then now : ℕ) (text rest piece after : List ℕ) (so_far : HasPut old mid before then text rest)
-    → piece ≡ take (length piece) rest → after ≡ drop (length piece) rest → Appends mid new piece → then ≤ now → HasPut old new before now text after
+    → piece ≡ take (length piece) rest → after ≡ drop (length piece) rest → Appends mid new piece → now ≡ then → HasPut old new before now text after
 puts_on old mid new before then now text rest piece after so_far piece-is after-is put counted =
     let whole : rest ≡ piece ++ after = sym (take-append-drop (length piece) rest) ∙ ap (λ (p : List ℕ). p ++ drop (length piece) rest) (sym piece-is) ∙ ap (λ (a : List ℕ). piece ++ a) (sym after-is) in
     record {
       front = so_far.front ++ piece;
       parts = so_far.parts ∙ ap (λ (r : List ℕ). so_far.front ++ r) whole ∙ sym (append_assoc so_far.front piece after);
       written = Appends-then old mid new so_far.front piece so_far.written put;
-      counted = omega (arith, so_far.counted);
+      counted = counted ∙ so_far.counted;
     }
 
 pub breaks_off : (old mid new : Option (List ℕ)) (before then : ℕ) (text rest piece after : List ℕ) (so_far : HasPut old mid before then text rest)

@@ -1,8 +1,8 @@
 //! The top call.
-ghost use Rattle.std.specs.Prelude.{◌≡◌, ◌==◌, ℕ, ◌<◌, ◌≤◌, true, false, Option, None, Some, IsNone, IfSome, IsSomeAnd, IfOk, IfErr, OnErr, IsErrOf, length, map, string_bytes};
+ghost use Rattle.std.specs.Prelude.{◌≡◌, ◌==◌, ℕ, ◌<◌, ◌≤◌, true, false, Option, None, Some, IsNone, IfSome, IsSomeAnd, IfOk, IfErr, OnErr, IsErrOf, IsOkAnd, ◌⊎◌, length, map, string_bytes};
 ghost use Rattle.std.specs.List.{list_all};
 ghost use Rattle.std.specs.FinMap as files;
-ghost use Rattle.pm_outside.specs.Outside.{Rose};
+ghost use Rattle.pm_outside.specs.Outside.{CountsOnly, Rose};
 ghost use Rattle.pm_cnf.specs.Refusals.{Refuses};
 ghost use Rattle.pm_top.specs.JobWords.{job_of};
 ghost use Rattle.pm_top.specs.JobViews.{job_view};
@@ -211,19 +211,26 @@ fn answer_words<L: Library>(
         → Rose (L.misses library.old) (L.misses library.new)
         × IsMissing (map string_bytes words.now) (L.told library.old) }
     ensures read_fault { IsErrOf result Fault.ReadFault → Rose (L.faults library.old) (L.faults library.new) }
+    ensures misses { CountsOnly (IsErrOf result Fault.Missing)
+        (L.misses library.old) (L.misses library.new) }
+    ensures faults { CountsOnly (IsErrOf result Fault.ReadFault)
+        (L.faults library.old) (L.faults library.new) }
+    ensures longs { CountsOnly (IsOkAnd result (λ answer. answer.status ≡ Status.BadInput))
+        (L.longs library.old) (L.longs library.new) }
 {
     let Some(job) = job_of(words) else {
         let text = bad_words(alloc)?;
         let status = Status::BadWords;
         return Ok(Answer { status, text });
     };
+    // Made before the fetch: where there is no memory for it, no count has risen.
+    let over_limit = too_long(alloc, 1)?;
     match library.fetch(alloc, job.file(), MAX_FILE_BYTES) {
         Ok(bytes) => Ok(do_job(alloc, job, &bytes)?),
-        Err(FetchFault::TooLong) => {
-            let text = too_long(alloc, 1)?;
-            let status = Status::BadInput;
-            Ok(Answer { status, text })
-        }
+        Err(FetchFault::TooLong) => Ok(Answer {
+            status: Status::BadInput,
+            text: over_limit,
+        }),
         Err(FetchFault::Missing) => Err(Fault::Missing),
         Err(FetchFault::Failed) => Err(Fault::ReadFault),
         Err(FetchFault::Memory) => Err(Fault::NoMemory),
@@ -253,6 +260,17 @@ pub fn run_alone<L: Library, S: Sink>(
         × IsMissing (map string_bytes words.now) (L.told library.old) }
     ensures read_fault { result ≡ Status.ReadFault → Rose (L.faults library.old) (L.faults library.new) }
     ensures write_fault { result ≡ Status.WriteFault → Rose (S.faults sink.old) (S.faults sink.new) }
+
+    // A count changes only where the run ends with its fault. So each of them is as before after
+    // want of memory.
+    ensures misses { CountsOnly (result ≡ Status.Missing)
+        (L.misses library.old) (L.misses library.new) }
+    ensures faults { CountsOnly (result ≡ Status.ReadFault)
+        (L.faults library.old) (L.faults library.new) }
+    ensures longs { CountsOnly ((result ≡ Status.BadInput) ⊎ (result ≡ Status.WriteFault))
+        (L.longs library.old) (L.longs library.new) }
+    ensures puts { CountsOnly (result ≡ Status.WriteFault)
+        (S.faults sink.old) (S.faults sink.new) }
 
     // What is written is the text of the output, with its status. A level is printed as exhausted
     // only with its number of attempts, and only if no closed connection tableau has at most its

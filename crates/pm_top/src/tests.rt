@@ -1,7 +1,9 @@
 //! Runs on libraries and sinks in memory: the texts and statuses of each end.
+ghost use Rattle.std.specs.Prelude.{Some};
+
 use crate::put::put_text;
 use crate::{Status, run_alone};
-use pm_outside::{MemoryLibrary, MemorySink};
+use pm_outside::{FetchFault, Library, MemoryLibrary, MemorySink};
 use std::alloc::{AllocError, Global};
 use std::test::Fail;
 
@@ -295,5 +297,60 @@ fn pieces(rt: HostRuntime) -> Result<(), Fail> {
     sink.fail_at(1, 0)?;
     assert!(rt; put_text(&mut sink, &text).is_ok());
     assert_eq!(rt; sink.bytes().len(), 4_096);
+    Ok(())
+}
+
+// A library that notes what it is asked for. It has no memory for files where it is told so.
+#[derive(Drop)]
+struct NotingLibrary {
+    files: MemoryLibrary,
+    has_memory: bool,
+    asked: Vec<String>,
+}
+
+impl Library for NotingLibrary {
+    ghost faults = { λ library. library.files.counts.faults };
+
+    ghost misses = { λ library. library.files.counts.misses };
+
+    ghost longs = { λ library. library.files.counts.longs };
+
+    ghost told = { λ library. Some library.files.files };
+
+    fn fetch(&mut self, alloc: Global, name: &str, limit: u64) -> Result<Vec<u8>, FetchFault> {
+        let noted = match String::from_str(alloc, name) {
+            Ok(name) => self.asked.push(name).is_ok(),
+            Err(_) => false,
+        };
+        if !noted || !self.has_memory {
+            return Err(FetchFault::Memory);
+        }
+        self.files.fetch(alloc, name, limit)
+    }
+}
+
+// The library is asked once, for the file of the words, also where it has no memory for it.
+#[test]
+fn one_fetch(rt: HostRuntime) -> Result<(), Fail> {
+    let alloc = rt.alloc();
+    for (has_memory, file, status) in [
+        (true, "e.p", Status::Done),
+        (true, "f.p", Status::Missing),
+        (false, "e.p", Status::NoMemory),
+    ] {
+        let mut files = MemoryLibrary::new(alloc)?;
+        files.add("e.p", b"cnf(a,axiom,p). cnf(b,axiom,~p).")?;
+        let mut library = NotingLibrary {
+            files,
+            has_memory,
+            asked: Vec::new(alloc),
+        };
+        let mut sink = MemorySink::with_room(alloc, 4_096)?;
+        let words = words(alloc, &["prove", file])?;
+        let ended = run_alone(alloc, &words, &mut library, &mut sink);
+        assert_eq!(rt; ended, status);
+        assert_eq!(rt; library.asked.len(), 1);
+        assert_eq!(rt; library.asked[0].as_str(), file);
+    }
     Ok(())
 }

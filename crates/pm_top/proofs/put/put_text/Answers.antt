@@ -14,4 +14,4 @@ pub pieces-preserved : goal.pieces-preserved
 pieces-preserved g c =
     let piece : c.split_at.result.0.now ≡ take (length c.split_at.result.0.now) c.pieces.rest.now = c.split_at.ensures.front ∙ ap (λ (n : ℕ). take n c.pieces.rest.now) (sym c.split_at.ensures.front_len) in
     let after : c.split_at.result.1.now ≡ drop (length c.split_at.result.0.now) c.pieces.rest.now = c.split_at.ensures.back ∙ ap (λ (n : ℕ). drop n c.pieces.rest.now) (sym c.split_at.ensures.front_len) in
-    puts_on _ _ _ _ _ _ c.args.text.now c.pieces.rest.now c.split_at.result.0.now c.split_at.result.1.now c.pieces.invariant piece after c.in_ok-put.ensures.all c.in_ok-put.ensures.faults
+    puts_on _ _ _ _ _ _ c.args.text.now c.pieces.rest.now c.split_at.result.0.now c.split_at.result.1.now c.pieces.invariant piece after c.in_ok-put.ensures.all c.in_ok-put.ensures.unfailed
