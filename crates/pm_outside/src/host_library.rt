@@ -152,3 +152,26 @@ fn read_piece<F: Read>(file: &mut F, bytes: &mut Vec<u8>, most: usize) -> Result
         Err(_) => Err(FetchFault::Failed),
     }
 }
+
+#[cfg(test)]
+mod tests {
+    use super::*;
+    use std::test::*;
+
+    // A reader whose every read fails.
+    #[derive(Drop)]
+    struct Broken;
+
+    impl Read for Broken {
+        fn read(&mut self, _buf: &mut [u8]) -> io::Result<usize> {
+            Err(Error::from(ErrorKind::Other))
+        }
+    }
+
+    #[test]
+    fn a_read_that_fails_in_mid_file_is_a_fault(rt: HostRuntime) {
+        let opened = Ok(b"p(a)".as_slice().chain(Broken));
+        let answer = read_file(opened, rt.alloc(), 99);
+        assert_eq!(rt; answer.err(), Some(FetchFault::Failed));
+    }
+}

@@ -131,7 +131,8 @@ impl Library for MemoryLibrary {
     fn fetch(&mut self, alloc: Global, name: &str, limit: u64) -> Result<Vec<u8>, FetchFault>
         ensures answer { Answers result (next_answer self.old name.now limit) }
         ensures state { self.new ≡ after_fetch self.old result }
-        ensures fetched { IsFetch (memory_view self.old) (memory_view self.new) name.now limit result }
+        ensures fetched { IsFetch (memory_view self.old) (memory_view self.new)
+            name.now limit result }
     {
         let answer = self.answer(alloc, name, limit);
         if !matches!(answer, Err(FetchFault::Memory)) {

@@ -3,6 +3,9 @@ use crate::{
     FetchFault, HostLibrary, HostSink, Library, MemoryLibrary, MemorySink, PutFault, Sink,
 };
 use std::alloc::Global;
+use std::cell::Cell;
+use std::fmt::Display;
+use std::io::{self, Error, ErrorKind};
 use std::test::Fail;
 use std::{env, fs};
 
@@ -132,4 +135,43 @@ fn the_host_reads_files(rt: HostRuntime) -> Result<(), Fail> {
 fn the_host_writes_text(rt: HostRuntime) {
     let mut sink = HostSink::new(&rt);
     assert_eq!(rt; put(&mut sink, b"the standard output\n"), Ok(()));
+}
+
+// A runtime that prints three bytes at a time, and as many in all as it has room for.
+#[derive(Drop)]
+struct Drip {
+    room: Cell<usize>,
+}
+
+impl Print for Drip {
+    fn print<D: Display + Drop>(&self, _value: D) -> io::Result<()> {
+        Err(Error::from(ErrorKind::Unsupported))
+    }
+
+    fn println<D: Display + Drop>(&self, _value: D) -> io::Result<()> {
+        Err(Error::from(ErrorKind::Unsupported))
+    }
+
+    fn write_all(&self, _bytes: &[u8]) -> io::Result<()> {
+        Err(Error::from(ErrorKind::Unsupported))
+    }
+
+    fn write_some(&self, bytes: &[u8]) -> io::Result<usize> {
+        let room = self.room.get();
+        let count = bytes.len().min(room).min(3);
+        self.room.set(room.saturating_sub(count));
+        Ok(count)
+    }
+}
+
+#[test]
+fn the_host_writes_all_that_it_is_given(rt: HostRuntime) {
+    let drip = Drip {
+        room: Cell::new(10),
+    };
+    let mut sink = HostSink::new(&drip);
+    assert_eq!(rt; put(&mut sink, b"1234567"), Ok(()));
+    assert_eq!(rt; drip.room.get(), 3);
+    assert_eq!(rt; put(&mut sink, b"8901"), Err(PutFault::Failed));
+    assert_eq!(rt; drip.room.get(), 0);
 }
