@@ -9,8 +9,8 @@ use std::io::ErrorKind;
 use std::process::ExitCode;
 use std::rt::Env;
 
-// The words of the command line without the program's name. Words that aren't text are no job, so in
-// their place there are none.
+// The words of the command line without the program's name. Words that aren't text are no job, so
+// in their place there are none.
 fn words<R: Env + AllocGlobal>(rt: &R) -> Result<Vec<String>, AllocError> {
     match env::args(rt) {
         Ok(arguments) => arguments.skip(1).collect(rt.alloc()),

@@ -7,11 +7,13 @@ use Rattle.std.proofs.lemmas.Bool.{cases_lt}
 use Rattle.pm_logic.specs.Term.{Term, var, app, Terms, no_terms, more_terms}
 use Rattle.pm_logic.specs.Problem.{Symbol, Literal, Clause, Problem, IsTermOver, AreTermsOver, IsLiteralOver, IsClauseOver, IsValid}
 use Rattle.pm_logic.specs.Tableau.{Node, leaf, inner, Nodes, no_nodes, more_nodes, Tableau}
-use Rattle.pm_calculus.specs.Substitution.{put, put_among, put_in_literal, IsInstance, each_below, each_among, each_in_tableau, put_in_tableau, AreComplementary}
+use Rattle.pm_logic.specs.Filling.{fill, fill_among, put, term_for}
+use Rattle.pm_calculus.proofs.Putting.{put_among}
+use Rattle.pm_calculus.specs.Substitution.{put_in_literal, IsInstance, each_below, each_among, each_in_tableau, put_in_tableau, AreComplementary}
 use Rattle.pm_calculus.specs.Connection.{literal_on, literals_on, IsFamily, HasFamilies, HaveFamilies, IsRegularBelow, AreRegularBelow, IsRegular}
 use Rattle.pm_calculus.specs.Skeleton.{Skeleton, unclosed, closed, extended, Skeletons, no_skeletons, more_skeletons, State, empty, rooted}
 use Rattle.pm_calculus.specs.Choices.{at_depth, FitsBelow, FitAmong, IsLabelling}
-use Rattle.pm_calculus.specs.Laws.{InstancesCompose, ClauseInstancesCompose, InstancesLabel, RegularityReflects}
+use Rattle.pm_calculus.specs.Laws.{InstancesCompose, ClauseInstancesCompose, FilledInstances, InstancesLabel, RegularityReflects}
 use Rattle.pm_logic.proofs.ListLemmas.{Contains-from}
 
 -- the terms of one substitution and then another
@@ -76,25 +78,28 @@ compose a b c h k =
     ap (λ (ns : Nodes). let t : Tableau = record { root = a.root; children = ns } in t) (each_among-twice h.0 k.0 a.children) in
     (then h.0 k.0, k.1 ∙ ap (put_in_tableau k.0) h.1 ∙ same)
 
--- over a clause's own variables, the terms of the second substitution matter only below the first's
+-- over a clause's own variables, filling an instance fills the terms of the instance
 mutual
-  put_over : (symbols : List Symbol) (vars : ℕ) (first second : List Term) → length first ≡ vars → (t : Term) → IsTermOver symbols vars t
-      → put second (put first t) ≡ put (map (put second) first) t
-  put_over symbols vars first second len (var n) h =
-      let lt : n < length first = omega arith in sym (get_or-map (put second) first n (var n) (var n) lt)
-  put_over symbols vars first second len (app f ts) h = ap (app f) (put_over_among symbols vars first second len ts h.1)
+  pub fill_over : (symbols : List Symbol) (vars : ℕ) (first : List Term) (trees : ℕ → Term) → length first ≡ vars → (t : Term) → IsTermOver symbols vars t
+      → fill trees (put first t) ≡ put (map (fill trees) first) t
+  fill_over symbols vars first trees len (var n) h =
+      let lt : n < length first = omega arith in sym (get_or-map (fill trees) first n (var n) (var n) lt)
+  fill_over symbols vars first trees len (app f ts) h = ap (app f) (fill_over_among symbols vars first trees len ts h.1)
 
-  put_over_among : (symbols : List Symbol) (vars : ℕ) (first second : List Term) → length first ≡ vars → (ts : Terms) → AreTermsOver symbols vars ts
-      → put_among second (put_among first ts) ≡ put_among (map (put second) first) ts
-  put_over_among symbols vars first second len no_terms h = refl
-  put_over_among symbols vars first second len (more_terms t ts) h =
-      ap₂ more_terms (put_over symbols vars first second len t h.0) (put_over_among symbols vars first second len ts h.1)
+  fill_over_among : (symbols : List Symbol) (vars : ℕ) (first : List Term) (trees : ℕ → Term) → length first ≡ vars → (ts : Terms) → AreTermsOver symbols vars ts
+      → fill_among trees (put_among first ts) ≡ put_among (map (fill trees) first) ts
+  fill_over_among symbols vars first trees len no_terms h = refl
+  fill_over_among symbols vars first trees len (more_terms t ts) h =
+      ap₂ more_terms (fill_over symbols vars first trees len t h.0) (fill_over_among symbols vars first trees len ts h.1)
+
+pub filled_instances : FilledInstances
+filled_instances symbols terms trees t over = fill_over symbols (length terms) terms trees refl t over
 
 put_over_args : (symbols : List Symbol) (vars : ℕ) (first second : List Term) → length first ≡ vars → (ts : List Term) → All (IsTermOver symbols vars) ts
     → map (put second) (map (put first) ts) ≡ map (put (map (put second) first)) ts
 put_over_args symbols vars first second len [] h = refl
 put_over_args symbols vars first second len (t ∷ ts) h =
-    ap₂ (λ u us. u ∷ us) (put_over symbols vars first second len t (All-head (IsTermOver symbols vars) t ts h))
+    ap₂ (λ u us. u ∷ us) (fill_over symbols vars first (term_for second) len t (All-head (IsTermOver symbols vars) t ts h))
     (put_over_args symbols vars first second len ts (All-tail (IsTermOver symbols vars) t ts h))
 
 put_over_literals : (symbols : List Symbol) (vars : ℕ) (first second : List Term) → length first ≡ vars → (ls : List Literal)

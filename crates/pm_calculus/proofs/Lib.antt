@@ -5,6 +5,7 @@ pub mod Prefixes
 pub mod Sizes
 pub mod ListsToTrees
 pub mod TreesToLists
+pub mod Putting
 pub mod Instances
 pub mod Refutation
 pub mod General

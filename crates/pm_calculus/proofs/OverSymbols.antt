@@ -11,7 +11,9 @@ use Rattle.pm_logic.specs.Term.{Term, var, app, Terms, no_terms, more_terms, lis
 use Rattle.pm_logic.specs.Problem.{Symbol, Literal, Clause, Problem, HasShape, IsTermOver, AreTermsOver, IsLiteralOver, IsClauseOver, IsValid}
 use Rattle.pm_logic.specs.Tableau.{Node, leaf, inner, Nodes, no_nodes, more_nodes, Tableau, Entry, preorder_of, preorder_among}
 use Rattle.pm_logic.proofs.ListLemmas.{Contains-from}
-use Rattle.pm_calculus.specs.Substitution.{put, put_among, put_in_literal, IsInstance, each_below, each_among, each_in_tableau}
+use Rattle.pm_logic.specs.Filling.{put}
+use Rattle.pm_calculus.proofs.Putting.{put_among}
+use Rattle.pm_calculus.specs.Substitution.{put_in_literal, IsInstance, each_below, each_among, each_in_tableau}
 use Rattle.pm_calculus.specs.Connection.{literal_on, literals_on, IsFamily, HasFamilies, HaveFamilies, IsOver}
 use Rattle.pm_calculus.specs.Skeleton.{State}
 use Rattle.pm_calculus.specs.Alternatives.{state_after}

@@ -6,7 +6,9 @@ use Rattle.std.proofs.lemmas.Bool.{cases_lt}
 use Rattle.pm_logic.specs.Term.{Term, var, app, Terms, no_terms, more_terms}
 use Rattle.pm_logic.specs.Problem.{Literal}
 use Rattle.pm_logic.specs.Tableau.{Node, leaf, inner, Nodes, no_nodes, more_nodes, Tableau, Entry, preorder_of, preorder_among}
-use Rattle.pm_calculus.specs.Substitution.{put, put_among, put_in_literal, each_below, each_among, IsInstanceOf}
+use Rattle.pm_logic.specs.Filling.{put}
+use Rattle.pm_calculus.proofs.Putting.{put_among}
+use Rattle.pm_calculus.specs.Substitution.{put_in_literal, each_below, each_among, IsInstanceOf}
 use Rattle.pm_logic.specs.Variables.{variables, variables_among, AreNumberedFrom, IsNumberedInOrder}
 use Rattle.pm_calculus.specs.Laws.{GeneralTableauxAreUnique}
 use Rattle.pm_calculus.proofs.Zips.{zip_append}

@@ -1,8 +1,9 @@
 -- What holds of the definitions: each law stands on a function of src/laws.rt.
-use Rattle.std.specs.Prelude.{◌≡◌, ◌≢◌, ◌↔◌, ℕ, ◌<◌, ◌⊎◌, List, [], ◌∷◌, ◌++◌, map, Some, option_map}
+use Rattle.std.specs.Prelude.{◌≡◌, ◌≢◌, ◌↔◌, ℕ, ◌<◌, ◌⊎◌, List, [], ◌∷◌, ◌++◌, length, map, Some, option_map}
 use Rattle.std.specs.List.{AllZip}
 use Rattle.pm_logic.specs.Term.{Term}
-use Rattle.pm_logic.specs.Problem.{Symbol, Literal, Clause, Problem, IsClauseOver, IsValid}
+use Rattle.pm_logic.specs.Filling.{fill, put}
+use Rattle.pm_logic.specs.Problem.{Symbol, Literal, Clause, Problem, IsTermOver, IsClauseOver, IsValid}
 use Rattle.pm_logic.specs.Tableau.{Tableau, preorder}
 use Rattle.pm_calculus.specs.Substitution.{put_in_literal, IsInstance, IsInstanceOf, AreComplementary}
 use Rattle.pm_calculus.specs.Connection.{IsOver, IsClosed, IsRegular, IsRegularFor, Level, IsInClass, IsOverSymbols}
@@ -82,6 +83,14 @@ ClauseInstancesCompose =
     (symbols : List Symbol) (clause : Clause) (literals : List Literal) (terms : List Term)
     → IsClauseOver symbols clause → IsInstance clause literals
     → IsInstance clause (map (put_in_literal terms) literals)
+
+-- a term with the terms of a list put for its variables, filled, is the term with the filled terms
+-- of the list put for its variables
+abbrev pub FilledInstances : Type 0
+FilledInstances =
+    (symbols : List Symbol) (terms : List Term) (trees : ℕ → Term) (t : Term)
+    → IsTermOver symbols (length terms) t
+    → fill trees (put terms t) ≡ put (map (fill trees) terms) t
 
 -- an instance of a labelling is a labelling
 abbrev pub InstancesLabel : Type 0

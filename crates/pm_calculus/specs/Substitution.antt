@@ -1,21 +1,11 @@
 -- Substitution, instances, and complementary literals.
-use Rattle.std.specs.Prelude.{◌≡◌, not, List, length, map, slice_index_or}
-use Rattle.pm_logic.specs.Term.{Term, var, app, Terms, no_terms, more_terms}
+use Rattle.std.specs.Prelude.{◌≡◌, not, List, length, map}
+use Rattle.pm_logic.specs.Term.{Term}
+use Rattle.pm_logic.specs.Filling.{put}
 use Rattle.pm_logic.specs.Problem.{Literal, Clause}
 use Rattle.pm_logic.specs.Tableau.{Node, leaf, inner, Nodes, no_nodes, more_nodes, Tableau}
 
--- a term with terms put for its variables: the first of them for variable 0, the next for variable
--- 1, and so on; further variables stay
-abbrev mutual
-  pub put : List Term → Term → Term
-  put terms (var n) = slice_index_or terms n (var n)
-  put terms (app symbol args) = app symbol (put_among terms args)
-
-  pub put_among : List Term → Terms → Terms
-  put_among terms no_terms = no_terms
-  put_among terms (more_terms t ts) = more_terms (put terms t) (put_among terms ts)
-
--- the same in each term of a literal
+-- a literal with the terms of a list put for its variables
 abbrev pub put_in_literal : List Term → Literal → Literal
 put_in_literal terms literal =
     record {

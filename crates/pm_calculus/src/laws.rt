@@ -1,5 +1,5 @@
 //! What the definitions of the calculus mean: each law is what a function without a body ensures.
-ghost use Rattle.pm_calculus.specs.Laws.{PrefixesAreReached, ChoicesAreBelowWidths, CompleteListsEnd, CompleteListsGiveTableaux, TableauxFollowCompleteLists, ListsAndTableauxAgree, InstancesCompose, ClauseInstancesCompose, InstancesLabel, RegularityReflects, ClosedTableauxAreRefuted, GeneralTableauxAreInClass, GeneralTableauxAreUnique, FollowedListsAreComplete, StatesAreBuilt, StepsMayBeTaken, StatesAgree, LabellingsFollow, LabellingsShowNodes, LeastListsAreFollowed, LeastListsAreUnique, GeneralTableauxAreOverSymbols, ComplementaryLiteralsDiffer};
+ghost use Rattle.pm_calculus.specs.Laws.{PrefixesAreReached, ChoicesAreBelowWidths, CompleteListsEnd, CompleteListsGiveTableaux, TableauxFollowCompleteLists, ListsAndTableauxAgree, InstancesCompose, ClauseInstancesCompose, FilledInstances, InstancesLabel, RegularityReflects, ClosedTableauxAreRefuted, GeneralTableauxAreInClass, GeneralTableauxAreUnique, FollowedListsAreComplete, StatesAreBuilt, StepsMayBeTaken, StatesAgree, LabellingsFollow, LabellingsShowNodes, LeastListsAreFollowed, LeastListsAreUnique, GeneralTableauxAreOverSymbols, ComplementaryLiteralsDiffer};
 
 /// Each prefix of a reached list of choices is reached.
 pub fn prefixes_are_reached()
@@ -51,6 +51,13 @@ pub fn lists_and_tableaux_agree()
 /// An instance of an instance of a tableau is an instance of it.
 pub fn instances_compose()
     ensures { InstancesCompose }
+{}
+
+/// A term with a list's terms put for its variables, filled, is the term with the list's filled
+/// terms put for its variables: where trees stand for variables of a store, it is an instance by a
+/// list of trees.
+pub fn filled_instances()
+    ensures { FilledInstances }
 {}
 
 /// An instance of an instance of a clause is an instance of it, where the clause's variables are

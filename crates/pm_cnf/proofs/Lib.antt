@@ -1,5 +1,4 @@
 pub mod Lists
-pub mod lexemes
 pub mod grammar
 pub mod offences
 pub mod meaning

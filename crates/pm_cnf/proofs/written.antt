@@ -1,5 +1,3 @@
-pub mod PendingText
-pub mod OverSymbols
 pub mod WrittenWords
 pub mod WrittenItems
 pub mod Limited

@@ -1,9 +1,6 @@
-pub mod Scan
-pub mod View
 pub mod Machine
 pub mod Draft
 pub mod Parsed
 pub mod Progress
 pub mod Readable
 pub mod Parts
-pub mod Pending

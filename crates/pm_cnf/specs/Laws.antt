@@ -1,11 +1,11 @@
 -- What is true of all clause files.
 use Rattle.std.specs.Prelude.{◌≡◌, ℕ, ◌<◌, ◌^◌, List}
 use Rattle.pm_logic.specs.Problem.{Problem}
-use Rattle.pm_cnf.specs.declared.error.CnfKind.{CnfKind}
+use Rattle.pm_scan.specs.declared.offence.CnfKind.{CnfKind}
 use Rattle.pm_cnf.specs.declared.limits.Limits.{Limits}
 use Rattle.pm_cnf.specs.Offences.{IsFirstOffence}
 use Rattle.pm_cnf.specs.Meaning.{IsProblemIn}
-use Rattle.pm_cnf.specs.Text.{problem_text}
+use Rattle.pm_write.specs.Text.{problem_text}
 
 -- bytes have one problem at most
 abbrev pub ProblemIsDetermined : Type 0

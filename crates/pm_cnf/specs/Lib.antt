@@ -1,10 +1,7 @@
-pub mod Lexemes
 pub mod Grammar
 pub mod Offences
 pub mod Meaning
-pub mod Text
 pub mod Laws
 pub mod Limits
 pub mod Refusals
-pub mod Words
 pub mod Inside

@@ -5,9 +5,9 @@ use Rattle.pm_logic.specs.declared.symbols.Kind.TheVariants.{Predicate, Function
 use Rattle.pm_logic.specs.Lists.{Gathers}
 use Rattle.pm_logic.specs.Problem as logic
 use Rattle.pm_logic.specs.Term as tree
-use Rattle.pm_cnf.specs.declared.error.CnfKind.{CnfKind}
+use Rattle.pm_scan.specs.declared.offence.CnfKind.{CnfKind}
 use Rattle.pm_cnf.specs.declared.limits.Limits.{Limits}
-use Rattle.pm_cnf.specs.Lexemes.{Lexeme, Lexes, tokens_in}
+use Rattle.pm_scan.specs.Lexemes.{Lexeme, Lexes, tokens_in}
 use Rattle.pm_cnf.specs.Grammar.{Word, word_text, Term, variable, application, Arguments, no_arguments, more_arguments, Atom, predicate, truth, falsity, Literal, Formula, in_parentheses, disjunction, Name, word, integer, Item, AreItems, file_places, tokens_of}
 use Rattle.pm_cnf.specs.Offences.{with_text, IsOffence}
 

@@ -3,11 +3,11 @@ use Rattle.std.specs.Prelude.{◌≡◌, ◌≢◌, ℕ, ◌<◌, ◌≤◌, ◌
 use Rattle.std.specs.List.{list_any}
 use Rattle.std.specs.Option.{option_map}
 use Rattle.std.specs.Str.{bytes_eq}
-use Rattle.pm_cnf.specs.declared.token.Mark.TheVariants.{FullStop, Equals}
-use Rattle.pm_cnf.specs.declared.error.CnfKind.{CnfKind}
-use Rattle.pm_cnf.specs.declared.error.CnfKind.TheVariants as kinds
+use Rattle.pm_scan.specs.declared.token.Mark.TheVariants.{FullStop, Equals}
+use Rattle.pm_scan.specs.declared.offence.CnfKind.{CnfKind}
+use Rattle.pm_scan.specs.declared.offence.CnfKind.TheVariants as kinds
 use Rattle.pm_cnf.specs.declared.limits.Limits.{Limits}
-use Rattle.pm_cnf.specs.Lexemes.{Token, lower, upper, number, distinct, unequal, mark, Lexeme, gap, token, fault, lexeme_at, Lexes, tokens_in}
+use Rattle.pm_scan.specs.Lexemes.{Token, lower, upper, number, distinct, unequal, mark, Lexeme, gap, token, fault, lexeme_at, Lexes, tokens_in}
 use Rattle.pm_cnf.specs.Grammar.{Item, AreItems, Begins, a_literal, an_atom, an_item, an_argument, a_next_literal, Placed, file_places, tokens_of}
 
 -- the tokens are those of whole items

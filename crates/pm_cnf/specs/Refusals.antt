@@ -2,9 +2,9 @@
 use Rattle.std.specs.Prelude.{◌≡◌, ℕ, ◌-◌, List, take, length}
 use Rattle.pm_cnf.specs.declared.error.CnfError.{CnfError}
 use Rattle.pm_cnf.specs.declared.error.CnfError.TheVariants.{At, Memory}
-use Rattle.pm_cnf.specs.declared.error.Place.{Place}
+use Rattle.pm_scan.specs.declared.offence.Place.{Place}
 use Rattle.pm_cnf.specs.declared.limits.Limits.{Limits}
-use Rattle.pm_cnf.specs.Lexemes.{line_of, column_of}
+use Rattle.pm_scan.specs.Lexemes.{line_of, column_of}
 use Rattle.pm_cnf.specs.Offences.{IsFirstOffence}
 
 -- the bytes before the rest

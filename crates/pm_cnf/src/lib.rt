@@ -9,15 +9,13 @@ mod limits;
 mod number;
 mod parser;
 mod reading;
-mod scan;
-mod token;
-mod writing;
 
-pub use error::{CnfError, CnfKind, Place};
+pub use error::CnfError;
 pub use laws::{offence_is_determined, problem_is_determined, written_clauses_read_back};
 pub use limits::Limits;
+pub use pm_scan::{CnfKind, Place};
+pub use pm_write::write;
 pub use reading::read;
-pub use writing::write;
 
 #[cfg(test)]
 mod tests;

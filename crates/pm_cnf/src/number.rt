@@ -15,9 +15,9 @@ ghost use Rattle.pm_cnf.specs.Meaning.{IsProblemOf, Pairwise, AreTreesOf, kept_a
 ghost use Rattle.pm_cnf.specs.Inside.Parts.{is_argument, IsArgument, AreWellFormed, applications_of, trees_of, IsPartOf, part_leaf, terms_among, Grows, AreNumbered, IsNumbered, ArePrintable, node_holds, texts_of, tables};
 
 use crate::item::{Item, Name, Node, Word};
-use crate::scan::quoted_text;
 use indexmap::IndexSet;
 use pm_logic::{Clause, Kind, Literal, Name as ClauseName, Problem, Symbols, TermId, TermTable};
+use pm_scan::quoted_text;
 use std::alloc::{AllocError, Global};
 use std::marker::Model;
 

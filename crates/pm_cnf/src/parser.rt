@@ -1,24 +1,23 @@
 //! Reading items from tokens.
 ghost use Rattle.std.specs.Prelude.{is_some, map, IsTrue, ◌↔◌, ◌≡◌, ◌<◌, ◌+◌, ◌^◌, ◌≤◌, []};
-ghost use Rattle.pm_cnf.specs.Inside.View.{token_of};
+ghost use Rattle.pm_scan.specs.View.{token_of};
 ghost use Rattle.std.specs.List.{list_all};
 ghost use Rattle.std.specs.Char.{is_ascii_digit};
-ghost use Rattle.pm_cnf.specs.Lexemes as tokens;
+ghost use Rattle.pm_scan.specs.Lexemes as tokens;
 ghost use Rattle.pm_cnf.specs.Inside.Parsed.{state_of, draft_of, known_of, node_of, word_of, bracket_of, Accepts, AcceptsAt, TakesMark, AddsNode, OpensList, AddsArgument, CountsArgument, OpensBracket, ClosesBracket, AddsVariable, AllowsVariable, NotesVariable};
 ghost use Rattle.pm_cnf.specs.Inside.Machine.{start, innermost, term_refusal, atom_end_refusal, literal_step};
 ghost use Rattle.pm_cnf.specs.Inside.Draft.{nothing_drafted};
 ghost use Rattle.pm_cnf.specs.Inside.Draft as drafts;
-ghost use Rattle.pm_cnf.specs.declared.token.Mark.TheVariants.{CloseParenthesis};
+ghost use Rattle.pm_scan.specs.declared.token.Mark.TheVariants.{CloseParenthesis};
 ghost use Rattle.pm_cnf.specs.declared.parser.Expected.TheVariants as expect;
 ghost use Rattle.pm_cnf.specs.declared.parser.Refusal.TheVariants.{Kind};
-ghost use Rattle.pm_cnf.specs.declared.error.CnfKind.TheVariants as kinds;
+ghost use Rattle.pm_scan.specs.declared.offence.CnfKind.TheVariants as kinds;
 ghost use Rattle.pm_cnf.specs.Limits.{AreUsual};
 
-use crate::error::CnfKind;
 use crate::item::{Item, Name, Node, Word};
 use crate::limits::Limits;
-use crate::token::{Mark, Token};
 use indexmap::IndexSet;
+use pm_scan::{CnfKind, Mark, Token};
 use std::alloc::{AllocError, AllocFailed, Global};
 
 /// What a file goes on with.

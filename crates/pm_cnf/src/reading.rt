@@ -3,19 +3,18 @@ ghost use Rattle.std.specs.Prelude.{◌≡◌, ◌<◌, ◌≤◌, ◌+◌, ◌-
 ghost use Rattle.pm_cnf.specs.Inside.Parsed.{item_of};
 ghost use Rattle.pm_cnf.specs.Inside.Readable.{IsRead};
 ghost use Rattle.pm_cnf.specs.Refusals.{Refuses};
-ghost use Rattle.pm_cnf.specs.Inside.View.{lexeme_of};
+ghost use Rattle.pm_scan.specs.View.{lexeme_of};
 ghost use Rattle.pm_cnf.specs.Inside.Progress.{AcceptsLexeme, RefusesAt};
 ghost use Rattle.pm_cnf.specs.Meaning.{IsProblemIn};
 ghost use Rattle.pm_cnf.specs.Limits.{AreUsual};
 
-use crate::error::{CnfError, CnfKind};
+use crate::error::CnfError;
 use crate::item::Item;
 use crate::limits::Limits;
 use crate::number::number_items;
 use crate::parser::{Parser, Refusal};
-use crate::scan::{lexeme_at, place_at};
-use crate::token::Lexeme;
 use pm_logic::Problem;
+use pm_scan::{CnfKind, Lexeme, lexeme_at, place_at};
 use std::alloc::Global;
 
 /// Reads the problem of a clause file.

@@ -282,3 +282,28 @@ cnf(c,negated_conjecture,(~p(f(f(a))))).
     assert_eq!(rt; text.as_slice(), want.as_bytes());
     Ok(())
 }
+
+// The clauses of a file as they are written.
+fn written(alloc: Global, file: &str) -> Result<Vec<u8>, CnfError> {
+    let problem = read_file(alloc, file.as_bytes(), &Limits::standard())?;
+    Ok(write(alloc, &problem)?)
+}
+
+#[test]
+fn written_literals_and_terms(rt: HostRuntime) -> Result<(), Fail> {
+    let text = written(rt.alloc(), "cnf( 7, axiom, (p(A, x, B) | ~ 'Q r'(B)) ).")?;
+    let line = "cnf(7,axiom,(p(X0,x,X1) | ~'Q r'(X1))).\n";
+    assert_eq!(rt; text.as_slice(), line.as_bytes());
+
+    let text = written(
+        rt.alloc(),
+        "cnf(a, axiom, ~ p(f(g(X, Y), h(h(X))), Y, 'A') | 'p').",
+    )?;
+    let line = "cnf(a,axiom,(~p(f(g(X0,X1),h(h(X0))),X1,'A') | p)).\n";
+    assert_eq!(rt; text.as_slice(), line.as_bytes());
+
+    let text = written(rt.alloc(), "cnf(a, axiom, p). cnf(b, axiom, ~ p).")?;
+    let lines = "cnf(a,axiom,(p)).\ncnf(b,axiom,(~p)).\n";
+    assert_eq!(rt; text.as_slice(), lines.as_bytes());
+    Ok(())
+}

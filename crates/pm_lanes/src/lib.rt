@@ -30,7 +30,8 @@ pub fn next_compatible(
     requires c2_as_long { length c2.now ≡ length c0.now }
     requires c3_as_long { length c3.now ≡ length c0.now }
     requires from_within { from ≤ length c0.now }
-    ensures { IsFirstPlace (is_compatible goal c0.now c1.now c2.now c3.now) from (length c0.now) result }
+    ensures { IsFirstPlace
+        (is_compatible goal c0.now c1.now c2.now c3.now) from (length c0.now) result }
 {
     let mut at = from;
     'vectors: while c0.len() - at >= LANES {

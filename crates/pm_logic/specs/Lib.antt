@@ -1,5 +1,6 @@
 pub mod Lists
 pub mod Term
+pub mod Filling
 pub mod TermCode
 pub mod Variables
 pub mod Table

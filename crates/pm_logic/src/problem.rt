@@ -82,11 +82,18 @@ impl Model for Problem {
 impl Problem {
     /// The problem of these clauses, whose numbers and rows are those of the symbols and terms.
     pub fn new(symbols: Symbols, terms: TermTable, clauses: Vec<Clause>) -> Problem
-        requires rows { All (λ clause. All (HasRows (length terms)) clause.literals.items) clauses.items }
-        requires valid { IsValid
-            (record { symbols = symbols; terms = terms; clauses = map (clause_of terms) clauses.items }) }
-        ensures { result
-            ≡ record { symbols = symbols; terms = terms; clauses = map (clause_of terms) clauses.items } }
+        requires rows { All (λ clause.
+            All (HasRows (length terms)) clause.literals.items) clauses.items }
+        requires valid { IsValid (record {
+          symbols = symbols;
+          terms = terms;
+          clauses = map (clause_of terms) clauses.items;
+        }) }
+        ensures { result ≡ record {
+          symbols = symbols;
+          terms = terms;
+          clauses = map (clause_of terms) clauses.items;
+        } }
     {
         Problem {
             symbols,
@@ -168,8 +175,10 @@ mod tests {
     // The clause of one literal, the symbol 0 with no arguments.
     fn unit_clause(alloc: Global, positive: bool, role: &str) -> Result<Clause, AllocError>
         ensures one { IfOk result (λ clause. length clause.literals.items ≡ 1) }
-        ensures symbol { IfOk result (λ clause. All (λ literal. literal.predicate ≡ 0) clause.literals.items) }
-        ensures args { IfOk result (λ clause. All (λ literal. literal.args.items ≡ []) clause.literals.items) }
+        ensures symbol { IfOk result
+            (λ clause. All (λ literal. literal.predicate ≡ 0) clause.literals.items) }
+        ensures args { IfOk result
+            (λ clause. All (λ literal. literal.args.items ≡ []) clause.literals.items) }
     {
         let mut literals = Vec::new(alloc);
         literals.push(Literal {

@@ -178,7 +178,7 @@ mod tests {
             ("p", 1, Kind::Predicate, None),
             ("p", 0, Kind::Function, None),
         ] {
-            assert_eq!(rt; symbols.find(text, arity, kind), want, "{text}/{arity}");
+            assert_eq!(rt; symbols.find(text, arity, kind), want);
         }
         assert_eq!(rt; symbols.text(1), "f");
         assert_eq!(rt; symbols.arity(1), 1);

@@ -49,7 +49,10 @@ impl Model for Tableau {
 
     ghost use Rattle.pm_logic.specs.View.{tableau_of, IsPreorder};
 
-    ghost view = { λ a. record { terms = a.terms; tableau = tableau_of a.terms a.root a.nodes.items } };
+    ghost view = { λ a. record {
+      terms = a.terms;
+      tableau = tableau_of a.terms a.root a.nodes.items;
+    } };
 
     ghost invariant = { λ a. IsPreorder a.terms a.nodes.items };
 }
@@ -57,7 +60,10 @@ impl Model for Tableau {
 impl Tableau {
     /// The tableau whose root has the clause of this index, and no nodes yet.
     pub fn new(alloc: Global, terms: TermTable, root: u32) -> Tableau
-        ensures { result ≡ record { terms = terms; tableau = record { root = root; children = no_nodes } } }
+        ensures { result ≡ record {
+          terms = terms;
+          tableau = record { root = root; children = no_nodes };
+        } }
     {
         Tableau {
             terms,

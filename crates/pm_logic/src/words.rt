@@ -91,7 +91,16 @@ fn escape(into: &mut Vec<u8>, byte: u8) -> Result<(), AllocError>
 #[cfg(test)]
 mod tests {
     use super::*;
+    use std::alloc::Global;
     use std::test::Fail;
+
+    // Whether the text is written as this word, after the byte that stood there before.
+    fn is_written_as(alloc: Global, text: &str, word: &str) -> Result<bool, AllocError> {
+        let mut into = Vec::new(alloc);
+        into.push(b'-')?;
+        write_word(&mut into, text)?;
+        Ok(into[0] == b'-' && &into[1..] == word.as_bytes())
+    }
 
     #[test]
     fn words_bare_and_quoted(rt: HostRuntime) -> Result<(), Fail> {
@@ -110,11 +119,7 @@ mod tests {
             (r"\'", r"'\\\''"),
             ("$true", "'$true'"),
         ] {
-            let mut into = Vec::new(rt.alloc());
-            into.push(b'-')?;
-            write_word(&mut into, text)?;
-            assert_eq!(rt; into[0], b'-');
-            assert_eq!(rt; &into[1..], word.as_bytes(), "{text}");
+            assert!(rt; is_written_as(rt.alloc(), text, word)?);
         }
         Ok(())
     }

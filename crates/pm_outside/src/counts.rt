@@ -25,8 +25,9 @@ impl Counts {
         }
     }
 
-    /// Counts the cause of this answer. Bytes and want of memory are not counted.
-    pub fn count(&mut self, answer: &Result<Vec<u8>, FetchFault>)
+    /// Counts the cause of this answer. An answer that is no fault and want of memory are not
+    /// counted.
+    pub fn count<A>(&mut self, answer: &Result<A, FetchFault>)
         ensures counted { self.new ≡ counts_after self.old answer.now }
         ensures faults { CountsOnly (IsErrOf answer.now FetchFault.Failed)
             self.old.faults self.new.faults }

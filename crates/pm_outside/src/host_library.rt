@@ -1,11 +1,11 @@
 //! The library of the host: its files.
-ghost use Rattle.std.specs.Prelude.{◌≡◌, ◌≢◌, ℕ, List, ◌+◌, ◌^◌, ◌≤◌, ◌<◌, None, Err, vec_len, IfErr, length, IfOk, IfSome, IsOk, IsOkAnd, IsErrAnd, IsErrOf};
-ghost use Rattle.std.specs.Io.KnownBytes.{Consumes};
+ghost use Rattle.std.specs.Prelude.{◌≡◌, ◌≢◌, ◌⊎◌, [], ◌+◌, ◌^◌, ◌≤◌, ◌<◌, None, Err, vec_len, IfErr, length, IfOk, OnOk, IfSome, IsOkAnd, IsErrAnd, IsErrOf};
+ghost use Rattle.std.specs.Io.KnownBytes.{Consumes, Keeps};
 ghost use Rattle.std.specs.IoError.{error_kind};
 ghost use Rattle.pm_outside.specs.Counts.{counts_after, no_counts};
 ghost use Rattle.pm_outside.specs.HostLibrary.{host_view};
-ghost use Rattle.pm_outside.specs.Inside.Reading.{Reads, IsReadFault};
-ghost use Rattle.pm_outside.specs.Outside.{IsFetch};
+ghost use Rattle.pm_outside.specs.Inside.Reading.{HasBegunRead, IsReadFault, Reads};
+ghost use Rattle.pm_outside.specs.Outside.{CountsOnly, IsFetch};
 
 use crate::counts::Counts;
 use crate::library::{FetchFault, Library};
@@ -61,31 +61,51 @@ impl<'r, R: Files> Library for HostLibrary<'r, R> {
         ensures counts { self.new ≡ counts_after self.old result }
         ensures fetched { IsFetch (host_view self.old) (host_view self.new) name.now limit result }
     {
-        let answer = read_file(fs::open(self.rt, name), alloc, limit);
-        self.counts.count(&answer);
-        answer
+        let mut opened = fs::open(self.rt, name);
+        let mut bytes = Vec::new(alloc);
+        read_file(&mut opened, &mut bytes, limit, &mut self.counts)?;
+        Ok(bytes)
     }
 }
 
-// The bytes of what opening a file gave.
-fn read_file<F: Read + Drop>(
-    opened: io::Result<F>,
-    alloc: Global,
+// The bytes of what opening a file gave, with the cause of a fault counted. File and buffer stay
+// with the caller, so that the clauses can tell how far it came: after want of memory the buffer
+// has exactly what was read, and a read that failed has left more in it.
+fn read_file<F: Read>(
+    opened: &mut io::Result<F>,
+    bytes: &mut Vec<u8>,
     limit: u64,
-) -> Result<Vec<u8>, FetchFault>
-    ensures within { IfOk result (λ bytes. length bytes.items ≤ limit) }
-    ensures whole { IfOk result (λ bytes. IsOkAnd opened (λ file.
-        IfSome (F.remaining file) (λ content. bytes.items ≡ content))) }
-    ensures too_long { IsErrOf result FetchFault.TooLong → IsOkAnd opened (λ file.
+    counts: &mut Counts,
+) -> Result<(), FetchFault>
+    requires { bytes.old.items ≡ [] }
+    ensures counts { counts.new ≡ counts_after counts.old result }
+    ensures faults { CountsOnly (IsErrOf result FetchFault.Failed)
+        counts.old.faults counts.new.faults }
+    ensures misses { CountsOnly (IsErrOf result FetchFault.Missing)
+        counts.old.misses counts.new.misses }
+    ensures longs { CountsOnly (IsErrOf result FetchFault.TooLong)
+        counts.old.longs counts.new.longs }
+    ensures within { OnOk result (length bytes.new.items ≤ limit) }
+    ensures whole { OnOk result (IsOkAnd opened.old (λ file.
+        IfSome (F.remaining file) (λ content. bytes.new.items ≡ content))) }
+    ensures too_long { IsErrOf result FetchFault.TooLong → IsOkAnd opened.old (λ file.
         IfSome (F.remaining file) (λ content. limit < length content)) }
     ensures missing { IsErrOf result FetchFault.Missing
-        → IsErrAnd opened (λ error. error_kind error ≡ ErrorKind.NotFound) }
-    ensures memory { IsErrOf result FetchFault.Memory → IsOk opened }
+        → IsErrAnd opened.old (λ error. error_kind error ≡ ErrorKind.NotFound) }
+    ensures memory { IsErrOf result FetchFault.Memory → IsOkAnd opened.old (λ file.
+        IsOkAnd opened.new (λ left. Consumes (F.remaining file) (F.remaining left)
+        bytes.new.items)) }
+    ensures failed { IsErrOf result FetchFault.Failed
+        → IsErrAnd opened.old (λ error. error_kind error ≢ ErrorKind.NotFound)
+        ⊎ IsOkAnd opened.old (λ file. IsOkAnd opened.new (λ left.
+        HasBegunRead (F.remaining file) (F.remaining left) bytes.new.items)) }
 {
-    match opened {
-        Ok(mut file) => read_at_most(&mut file, alloc, limit),
-        Err(error) => Err(cause_of(&error)),
-    }
+    let answer = match opened {
+        Ok(file) => read_at_most(file, bytes, limit),
+        Err(error) => Err(cause_of(error)),
+    };
+    counts.count(&answer);
+    answer
 }
 
 // Why a file wasn't opened.
@@ -101,18 +121,20 @@ fn cause_of(error: &Error) -> FetchFault
 }
 
 // Reads to the end, or one byte past the limit. Each turn takes at least one byte.
-fn read_at_most<F: Read>(file: &mut F, alloc: Global, limit: u64) -> Result<Vec<u8>, FetchFault>
-    ensures within { IfOk result (λ bytes. length bytes.items ≤ limit) }
-    ensures whole { IfOk result (λ bytes.
-        IfSome (F.remaining file.old) (λ content. bytes.items ≡ content)) }
+fn read_at_most<F: Read>(file: &mut F, bytes: &mut Vec<u8>, limit: u64) -> Result<(), FetchFault>
+    requires { bytes.old.items ≡ [] }
+    ensures within { OnOk result (length bytes.new.items ≤ limit) }
+    ensures whole { OnOk result
+        (IfSome (F.remaining file.old) (λ content. bytes.new.items ≡ content)) }
     ensures too_long { IsErrOf result FetchFault.TooLong
         → IfSome (F.remaining file.old) (λ content. limit < length content) }
-    ensures stops { IsErrOf result FetchFault.TooLong
-        → (piece : List ℕ) × (length piece ≤ limit + 1)
-        × Consumes (F.remaining file.old) (F.remaining file.new) piece }
+    ensures stops { IsErrOf result FetchFault.TooLong → length bytes.new.items ≤ limit + 1 }
+    ensures read { result ≢ Err FetchFault.Failed
+        → Consumes (F.remaining file.old) (F.remaining file.new) bytes.new.items }
+    ensures failed { IsErrOf result FetchFault.Failed
+        → HasBegunRead (F.remaining file.old) (F.remaining file.new) bytes.new.items }
     ensures found { result ≢ Err FetchFault.Missing }
 {
-    let mut bytes = Vec::new(alloc);
     while bytes.len() as u64 <= limit {
         let left = limit - bytes.len() as u64;
         let most = if left < PIECE as u64 {
@@ -120,8 +142,8 @@ fn read_at_most<F: Read>(file: &mut F, alloc: Global, limit: u64) -> Result<Vec<
         } else {
             PIECE
         };
-        if read_piece(file, &mut bytes, most)? == 0 {
-            return Ok(bytes);
+        if read_piece(file, bytes, most)? == 0 {
+            return Ok(());
         }
     }
     Err(FetchFault::TooLong)
@@ -138,7 +160,9 @@ fn read_piece<F: Read>(file: &mut F, bytes: &mut Vec<u8>, most: usize) -> Result
     ensures faults { IfErr result IsReadFault }
     ensures memory { IsErrOf result FetchFault.Memory
         → (file.new ≡ file.old) × (bytes.new.items ≡ bytes.old.items) }
-    ensures failed { IsErrOf result FetchFault.Failed → vec_len bytes.old < vec_len bytes.new }
+    ensures failed { IsErrOf result FetchFault.Failed
+        → Keeps (F.remaining file.old) (F.remaining file.new)
+        × (length bytes.old.items < length bytes.new.items) }
 {
     let start = bytes.len();
     if bytes.resize(start + most, 0).is_err() {
@@ -170,8 +194,11 @@ mod tests {
 
     #[test]
     fn a_read_that_fails_in_mid_file_is_a_fault(rt: HostRuntime) {
-        let opened = Ok(b"p(a)".as_slice().chain(Broken));
-        let answer = read_file(opened, rt.alloc(), 99);
+        let mut opened = Ok(b"p(a)".as_slice().chain(Broken));
+        let mut bytes = Vec::new(rt.alloc());
+        let mut counts = Counts::new();
+        let answer = read_file(&mut opened, &mut bytes, 99, &mut counts);
         assert_eq!(rt; answer.err(), Some(FetchFault::Failed));
+        assert_eq!(rt; counts.faults, 1);
     }
 }

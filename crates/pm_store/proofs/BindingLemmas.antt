@@ -10,7 +10,7 @@ use Rattle.pm_store.specs.Equations.{Binding, Equations, target_of, end_of}
 use Rattle.pm_store.specs.Trees.{tree, Occurs}
 use Rattle.pm_store.specs.Sound.{PointDown, CanBind, AreMade, IsSound}
 use Rattle.pm_store.proofs.ListLemmas.{if_same, if_other}
-use Rattle.pm_store.proofs.TreeLemmas.{unbound_in_tail, tree-variable, solved}
+use Rattle.pm_store.proofs.TreeLemmas.{unbound_in_tail, free_variables_stand, trees_solve}
 
 -- where the variables and the targets of bindings have the same trees, so have a cell and its end
 pub end_of-solved : (bs : List Binding) (trees : ℕ → Term) → All (λ b. trees b.variable ≡ trees b.target) bs → (c : ℕ) → trees c ≡ trees (end_of bs c)
@@ -84,7 +84,7 @@ unbound_beyond cells (b ∷ bs) v made beyond =
 pub end_of-apart : (s : Equations) (v t : ℕ) → IsSound s → CanBind s v t → end_of s.bindings t ≡ v → ⊥
 end_of-apart s v t sound can cycle =
     let same : tree s t ≡ var v =
-    end_of-solved s.bindings (tree s) (solved s sound).bindings t ∙ ap (tree s) cycle ∙ tree-variable s v sound can.free in
+    end_of-solved s.bindings (tree s) (trees_solve s sound).bindings t ∙ ap (tree s) cycle ∙ free_variables_stand s v sound can.free in
     can.apart (subst (λ (u : Term). Occurs v u) (sym same) refl)
 
 -- how many bindings lead from a cell to its end

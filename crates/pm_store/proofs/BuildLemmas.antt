@@ -5,11 +5,12 @@ use Rattle.std.proofs.lemmas.List.Elements.{All-weaker, All-head, All-tail, All-
 use Rattle.std.proofs.lemmas.Option.{slice_get_within, get_or_from_slice_get}
 use Rattle.pm_logic.specs.Term.{Term, var, app, as_terms, tree_at}
 use Rattle.pm_logic.specs.Table.{Adds}
+use Rattle.pm_logic.specs.Filling.{fill}
 use Rattle.pm_store.specs.Entries.{Application}
 use Rattle.pm_store.specs.declared.resolver.Place.{Place}
 use Rattle.pm_store.specs.declared.resolver.Place.TheVariants.{Build}
 use Rattle.pm_store.specs.Equations.{Equations, end_of}
-use Rattle.pm_store.specs.Trees.{tree, fill, Occurs, OccursAmong}
+use Rattle.pm_store.specs.Trees.{tree, Occurs, OccursAmong}
 use Rattle.pm_store.specs.Resolved.{Resolved, row_of, numbered, HasRow, IsResolved}
 use Rattle.pm_store.specs.Inside.Pending.{WillHaveRow, IsReadyAt, Proceeds}
 use Rattle.pm_store.proofs.TermLemmas.{fill_among-as_terms}

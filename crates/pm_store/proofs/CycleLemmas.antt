@@ -1,9 +1,10 @@
 -- Trees are finite: a variable can't have the tree of a term in which it occurs.
 use Rattle.std.proofs.Common.{◌≡◌, ℕ, ◌+◌, ◌≤◌, inl, inr, sym, ◌∙◌, ap, subst, arith}
 use Rattle.pm_logic.specs.Term.{Term, var, app, Terms, no_terms, more_terms}
-use Rattle.pm_store.specs.Trees.{tree, Occurs, OccursAmong, fill, fill_among, size, size_among}
+use Rattle.pm_logic.specs.Filling.{fill, fill_among}
+use Rattle.pm_store.specs.Trees.{tree, Occurs, OccursAmong, size, size_among}
 use Rattle.pm_store.specs.Laws.{CyclesHaveNoSolution}
-use Rattle.pm_store.proofs.TreeLemmas.{general}
+use Rattle.pm_store.proofs.TreeLemmas.{trees_are_general}
 
 -- a variable's tree is no larger than that of a term in which it occurs
 mutual
@@ -29,4 +30,4 @@ no_cycle trees v (app symbol us) occurs apart same =
 
 pub cycles_have_no_solution : CyclesHaveNoSolution
 cycles_have_no_solution s v t sound within occurs apart trees solves same =
-    no_cycle trees v (tree s t) occurs apart (same ∙ general s trees sound solves t within)
+    no_cycle trees v (tree s t) occurs apart (same ∙ trees_are_general s trees sound solves t within)

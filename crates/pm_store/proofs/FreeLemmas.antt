@@ -11,12 +11,12 @@ use Rattle.pm_store.specs.Trees.{put_at, put_at_among, tree_of, tree_under, tree
 use Rattle.pm_store.specs.Sound.{PointsBelow, PointDown, AreMade}
 use Rattle.pm_store.specs.Laws.{TreesAreOfFreeVariables, LaterTrees}
 use Rattle.pm_store.proofs.ListLemmas.{if_same, if_other}
-use Rattle.pm_store.proofs.TreeLemmas.{points_below, tree-entry, solved, general}
+use Rattle.pm_store.proofs.TreeLemmas.{points_below, tree-entry, trees_solve, trees_are_general}
 use Rattle.pm_store.proofs.SolutionLemmas.{later_solutions}
 
 pub later_trees : LaterTrees
 later_trees before after sound sound' later c within =
-    general before (tree after) sound (later_solutions before after (tree after) later (solved after sound')) c within
+    trees_are_general before (tree after) sound (later_solutions before after (tree after) later (trees_solve after sound')) c within
 
 -- a variable of a term with another in the place of a variable is of the one, or of the other and not replaced
 mutual

@@ -10,7 +10,7 @@ use Rattle.pm_store.specs.Solutions.{Solves, with_tree, with_trees}
 use Rattle.pm_store.specs.Trees.{tree, KeepsTrees}
 use Rattle.pm_store.specs.Sound.{IsSound}
 use Rattle.pm_store.proofs.ListLemmas.{if_same, if_other, map_agree, slice_get-append, slice_get-last}
-use Rattle.pm_store.proofs.TreeLemmas.{solved}
+use Rattle.pm_store.proofs.TreeLemmas.{trees_solve}
 use Rattle.pm_store.proofs.SolutionLemmas.{Solves-with_cell, tree_under-append, IsSound-with_cell, other_cells_are_open, solves_agree}
 use Rattle.pm_store.proofs.BindingLemmas.{unbound_beyond}
 
@@ -61,7 +61,7 @@ module _ (old new : Equations) (cell : ℕ) (sound : IsSound old) (place : cell 
     pub application_tree : tree new cell ≡ app symbol (as_terms (map (tree old) args))
     application_tree =
         let sound' : IsSound new = subst IsSound (sym is) (IsSound-with_cell old (Application symbol args) sound below) in
-        ((application_solutions (tree new)).0 (solved new sound')).1
+        ((application_solutions (tree new)).0 (trees_solve new sound')).1
         ∙ ap (λ ts. app symbol (as_terms ts)) (map_agree (tree new) (tree old) (length old.cells) args application_trees below)
 
     pub application_extends : (trees : ℕ → Term) → Solves old trees → Solves new (with_tree trees cell (app symbol (as_terms (map trees args))))

@@ -1,9 +1,11 @@
 -- Lists of variables by their numbers, and terms with numbers in the place of variables.
-use Rattle.std.proofs.Common.{◌≡◌, ℕ, zero, suc, ◌⊎◌, inl, inr, List, [], ◌∷◌, ◌++◌, length, refl, sym, ◌∙◌, ap, ap₂, arith}
+use Rattle.std.proofs.Common.{◌≡◌, ℕ, zero, suc, ◌<◌, ◌⊎◌, inl, inr, List, [], ◌∷◌, ◌++◌, length, map, refl, sym, ◌∙◌, ap, ap₂, arith}
 use Rattle.std.specs.Prelude.{Contains, slice_index_or}
 use Rattle.std.proofs.lemmas.Bool.{cases_eq}
+use Rattle.std.proofs.lemmas.List.{get_or-map}
 use Rattle.pm_logic.specs.Term.{Term, var, app, Terms, no_terms, more_terms}
-use Rattle.pm_store.specs.Trees.{Occurs, OccursAmong, fill, fill_among}
+use Rattle.pm_logic.specs.Filling.{fill, fill_among, put, term_for}
+use Rattle.pm_store.specs.Trees.{Occurs, OccursAmong}
 use Rattle.pm_store.specs.Resolved.{with_variable, with_variables, with_variables_among, number_of, numbered}
 use Rattle.pm_store.proofs.ListLemmas.{if_same, if_other}
 
@@ -87,15 +89,26 @@ mutual
   fill_among-agree f g (more_terms t ts) agree =
       ap₂ more_terms (fill-agree f g t (λ v here. agree v (inl here))) (fill_among-agree f g ts (λ v later. agree v (inr later)))
 
--- a term is filled after its variables got their numbers, by the tree of the variable that has the number
-mutual
-  pub fill-numbered : (vs : List ℕ) (trees : ℕ → Term) (t : Term) → ((v : ℕ) → Occurs v t → Contains vs v)
-      → fill (λ n. trees (slice_index_or vs n 0)) (fill (numbered vs) t) ≡ fill trees t
-  fill-numbered vs trees (var v) known = ap trees (number_stands vs v (known v refl))
-  fill-numbered vs trees (app symbol args) known = ap (app symbol) (fill_among-numbered vs trees args known)
+pub number_below : (vs : List ℕ) (v : ℕ) → Contains vs v → number_of vs v < length vs
+number_below [] v has = absurd (Contains-none v has)
+number_below (w ∷ ws) v has =
+    elim (cases_eq w v) [
+      | inl e ↦ let first = if_same w v 0 (suc (number_of ws v)) e in omega (arith, first)
+      | inr ne ↦ let later = if_other w v 0 (suc (number_of ws v)) ne in
+          elim (Contains-cases w v ws has) [ inl e ↦ absurd (ne e) | inr rest ↦ omega (arith, later, number_below ws v rest) ]
+    ]
 
-  fill_among-numbered : (vs : List ℕ) (trees : ℕ → Term) (ts : Terms) → ((v : ℕ) → OccursAmong v ts → Contains vs v)
-      → fill_among (λ n. trees (slice_index_or vs n 0)) (fill_among (numbered vs) ts) ≡ fill_among trees ts
-  fill_among-numbered vs trees no_terms known = refl
-  fill_among-numbered vs trees (more_terms t ts) known =
-      ap₂ more_terms (fill-numbered vs trees t (λ v here. known v (inl here))) (fill_among-numbered vs trees ts (λ v later. known v (inr later)))
+-- a term whose variables have numbers is filled by the list of the trees of the numbered variables
+mutual
+  pub put-numbered : (vs : List ℕ) (trees : ℕ → Term) (t : Term) → ((v : ℕ) → Occurs v t → Contains vs v)
+      → put (map trees vs) (fill (numbered vs) t) ≡ fill trees t
+  put-numbered vs trees (var v) known =
+      let has : Contains vs v = known v refl in
+      get_or-map trees vs (number_of vs v) 0 (var (number_of vs v)) (number_below vs v has) ∙ ap trees (number_stands vs v has)
+  put-numbered vs trees (app symbol args) known = ap (app symbol) (put_among-numbered vs trees args known)
+
+  put_among-numbered : (vs : List ℕ) (trees : ℕ → Term) (ts : Terms) → ((v : ℕ) → OccursAmong v ts → Contains vs v)
+      → fill_among (term_for (map trees vs)) (fill_among (numbered vs) ts) ≡ fill_among trees ts
+  put_among-numbered vs trees no_terms known = refl
+  put_among-numbered vs trees (more_terms t ts) known =
+      ap₂ more_terms (put-numbered vs trees t (λ v here. known v (inl here))) (put_among-numbered vs trees ts (λ v later. known v (inr later)))

@@ -7,7 +7,7 @@ use Rattle.std.proofs.lemmas.List.Elements.{Contains-push}
 use Rattle.std.proofs.lemmas.List.{append-nil, append_assoc, length-append, map-append}
 use Rattle.pm_logic.specs.Term.{Term, var, app, Terms, no_terms, more_terms}
 use Rattle.pm_logic.specs.Variables.{variables, variables_among, AreNumberedFrom}
-use Rattle.pm_store.specs.Trees.{fill, fill_among}
+use Rattle.pm_logic.specs.Filling.{fill, fill_among}
 use Rattle.pm_store.specs.Resolved.{with_variable, with_variables, with_variables_among, number_of, numbered}
 use Rattle.pm_store.proofs.ListLemmas.{if_same, if_other}
 use Rattle.pm_store.proofs.NumberLemmas.{Contains-cases, Contains-later, Contains-first, Contains-none, with_variable-known, with_variable-new, number_of-kept, number_of-new}

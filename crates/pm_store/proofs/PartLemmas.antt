@@ -7,10 +7,11 @@ use Rattle.std.proofs.lemmas.List.Elements.{Contains-push_cases, Contains-append
 use Rattle.std.proofs.lemmas.Option.{slice_get_within}
 use Rattle.pm_logic.specs.Term.{Term, var, app, Terms, no_terms, more_terms, as_terms, tree_at}
 use Rattle.pm_logic.specs.Table.{Adds}
+use Rattle.pm_logic.specs.Filling.{fill, fill_among}
 use Rattle.pm_store.specs.declared.resolver.Place.{Place}
 use Rattle.pm_store.specs.declared.resolver.Place.TheVariants.{Visit, Build}
 use Rattle.pm_store.specs.Equations.{Equations}
-use Rattle.pm_store.specs.Trees.{tree, fill, fill_among, Occurs, IsPart, IsPartAmong}
+use Rattle.pm_store.specs.Trees.{tree, Occurs, IsPart, IsPartAmong}
 use Rattle.pm_store.specs.Resolved.{Resolved, row_of, numbered, HasRow, IsResolved, IsMore, AddsPartsOf}
 use Rattle.pm_store.specs.Inside.Pending.{visits, cell_of, AddsRowsOf, AddsPlacesOf, ComesOfParts}
 use Rattle.pm_store.proofs.ListLemmas.{slice_get-last}

@@ -7,12 +7,13 @@ use Rattle.pm_logic.specs.Term.{Term, var, app}
 use Rattle.pm_logic.specs.Table.{variable_count}
 use Rattle.pm_logic.proofs.ListLemmas.{AreDistinct-push}
 use Rattle.pm_logic.proofs.TableLemmas.{variable_count-push}
+use Rattle.pm_logic.specs.Filling.{fill}
 use Rattle.pm_store.specs.Equations.{Equations, IsFree}
-use Rattle.pm_store.specs.Trees.{tree, fill, Occurs}
+use Rattle.pm_store.specs.Trees.{tree, Occurs}
 use Rattle.pm_store.specs.Sound.{IsSound}
 use Rattle.pm_store.specs.Resolved.{Resolved, row_among, row_of, numbered, number_of, with_variables, HasRow, IsResolved, IsMore}
 use Rattle.pm_store.proofs.ListLemmas.{slice_get-append, slice_get-last}
-use Rattle.pm_store.proofs.TreeLemmas.{tree-variable}
+use Rattle.pm_store.proofs.TreeLemmas.{free_variables_stand}
 use Rattle.pm_store.proofs.NumberLemmas.{with_variable-known, with_variable-new, number_of-kept, number_of-new, fill-agree}
 use Rattle.pm_store.proofs.RowLemmas.{row_among-kept, row_among-added, row_among-cases}
 
@@ -102,7 +103,7 @@ module _ (s : Equations) (r : Resolved) (table : List Term) (v : ℕ) (is : IsRe
 
   new_row : IsSound s → IsFree s v → HasRow s (r.free ++ v ∷ []) (table ++ var (variable_count table) ∷ []) v (length table)
   new_row sound free =
-      let itself : tree s v ≡ var v = tree-variable s v sound free in
+      let itself : tree s v ≡ var v = free_variables_stand s v sound free in
       let number : number_of (r.free ++ v ∷ []) v ≡ variable_count table = number_of-new r.free v is_new ∙ sym is.count in
       record {
         stands = slice_get-last table (var (variable_count table)) ∙ ap (λ n. Some (var n)) (sym number)
@@ -134,7 +135,7 @@ module _ (s : Equations) (r : Resolved) (table : List Term) (v : ℕ) (is : IsRe
 pub order-known : (s : Equations) (r : Resolved) (table : List Term) (v row : ℕ) → IsSound s → IsFree s v → IsResolved s r table → row_of r v ≡ Some row
     → r.free ≡ with_variables r.free (tree s v)
 order-known s r table v row sound free is at =
-    let itself : tree s v ≡ var v = tree-variable s v sound free in
+    let itself : tree s v ≡ var v = free_variables_stand s v sound free in
     let known : Contains r.free v = (is.rows v row at).variables v (subst (λ (t : Term). Occurs v t) (sym itself) refl) in
     sym (ap (with_variables r.free) itself ∙ with_variable-known r.free v known)
 
@@ -155,7 +156,7 @@ pub numbers : (s : Equations) (r new : Resolved) (table grown : List Term) (rows
     → new ≡ with_row (record { rows = rows; free = free' }) v row → free' ≡ free ++ v ∷ [] → record { rows = rows; free = free } ≡ r
     → IsNumbered s r new grown v row
 numbers s r new table grown rows free free' v row sound unbound is none last added noted longer view =
-    let itself : tree s v ≡ var v = tree-variable s v sound unbound in
+    let itself : tree s v ≡ var v = free_variables_stand s v sound unbound in
     let whole : IsResolved s (with_number r v (length table)) (table ++ var (variable_count table) ∷ []) = IsResolved-variable s r table v is none sound unbound in
     let here : new ≡ with_number r v row = noted_number r new rows free free' v row noted longer view in
     record {

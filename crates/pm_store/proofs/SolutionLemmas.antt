@@ -10,7 +10,7 @@ use Rattle.pm_store.specs.Equations.{Binding, Equations, with_cell, with_binding
 use Rattle.pm_store.specs.Solutions.{Solves, with_tree}
 use Rattle.pm_store.specs.Trees.{trees_from, tree_of, put_at, tree_under, Occurs}
 use Rattle.pm_store.specs.Sound.{PointsBelow, PointDown, CanBind, AreMade, IsSound}
-use Rattle.pm_store.specs.Laws.{OtherCellsAreOpen, LaterSolutions}
+use Rattle.pm_store.specs.Laws.{OtherCellsAreOpen, LaterSolutions, BindingsNarrow}
 use Rattle.pm_store.proofs.ListLemmas.{if_other, map_agree, All-right, slice_get-append, slice_get-last, slice_get-push}
 use Rattle.pm_store.proofs.TreeLemmas.{trees_from-kept, points_below}
 
@@ -46,8 +46,8 @@ Solves-with_cell s e trees = (
   },
 )
 
-pub Solves-with_binding : (s : Equations) (v t : ℕ) (trees : ℕ → Term) → Solves (with_binding s v t) trees ↔ (Solves s trees × (trees v ≡ trees t))
-Solves-with_binding s v t trees =
+pub bindings_narrow : BindingsNarrow
+bindings_narrow s v t trees =
     let equal : Binding → Type 0 = λ b. trees b.variable ≡ trees b.target in
     let first : Binding = record { variable = v; target = t } in (
       λ solves. (

@@ -2,7 +2,8 @@
 use Rattle.std.proofs.Common.{◌≡◌, ℕ, ◌<◌, inl, inr, List, [], ◌∷◌, map, refl, sym, ◌∙◌, ap, ap₂, arith}
 use Rattle.std.proofs.lemmas.Bool.{cases_eq}
 use Rattle.pm_logic.specs.Term.{Term, var, app, Terms, no_terms, more_terms, as_terms}
-use Rattle.pm_store.specs.Trees.{put_at, put_at_among, Occurs, OccursAmong, fill, fill_among, size}
+use Rattle.pm_logic.specs.Filling.{fill, fill_among}
+use Rattle.pm_store.specs.Trees.{put_at, put_at_among, Occurs, OccursAmong, size}
 use Rattle.pm_store.proofs.ListLemmas.{if_same, if_other}
 
 mutual

@@ -6,9 +6,10 @@ use Rattle.std.proofs.lemmas.List.{length_push, get_or_append_left, get_or_push}
 use Rattle.std.proofs.lemmas.List.Elements.{All-head, All-tail, All-cons, All-weaker, All-nil}
 use Rattle.std.proofs.lemmas.Option.{slice_get-get_or}
 use Rattle.pm_logic.specs.Term.{Term, var, app, as_terms, tree_at}
+use Rattle.pm_logic.specs.Filling.{fill}
 use Rattle.pm_store.specs.Entries.{Entry, Variable, Application}
 use Rattle.pm_store.specs.Equations.{Binding, target_of}
-use Rattle.pm_store.specs.Trees.{tree_of, trees_from, put_at, tree_under, tree, fill}
+use Rattle.pm_store.specs.Trees.{tree_of, trees_from, put_at, tree_under, tree}
 use Rattle.pm_store.specs.Sound.{PointsBelow, PointDown, AreMade}
 use Rattle.pm_store.specs.Laws.{TreesSolve, TreesAreGeneral, FreeVariablesStand}
 use Rattle.pm_store.proofs.ListLemmas.{if_same, if_other, map_agree}
@@ -89,8 +90,8 @@ tree-free cells (b ∷ bs) down v is unbound =
     ap (put_at b.variable (tree_under cells bs b.target)) (tree-free cells bs down v is parts.1)
     ∙ if_other v b.variable (tree_under cells bs b.target) (var v) (λ e. parts.0 (sym e))
 
-pub tree-variable : FreeVariablesStand
-tree-variable s v sound free = tree-free s.cells s.bindings sound.down v free.variable free.unbound
+pub free_variables_stand : FreeVariablesStand
+free_variables_stand s v sound free = tree-free s.cells s.bindings sound.down v free.variable free.unbound
 
 -- the two trees of each binding are equal
 abbrev AreEqual : (ℕ → Term) → Binding → Type 0
@@ -106,8 +107,8 @@ tree-bindings cells (b ∷ bs) down made =
     All-cons (AreEqual (tree_under cells (b ∷ bs))) b bs first
     (All-weaker (AreEqual (tree_under cells bs)) (AreEqual (tree_under cells (b ∷ bs))) (λ x same. ap (put_at b.variable t) same) bs (tree-bindings cells bs down made.1))
 
-pub solved : TreesSolve
-solved s sound = record {
+pub trees_solve : TreesSolve
+trees_solve s sound = record {
   applications = tree-application s.cells s.bindings sound.down;
   bindings = tree-bindings s.cells s.bindings sound.down sound.made;
 }
@@ -148,6 +149,6 @@ instances cells (b ∷ bs) solution down made solves same c within =
     instances cells bs solution down made.1 solves rest c within
     ∙ sym (fill-put_at solution b.variable (tree_under cells bs b.target) (tree_under cells bs c) first)
 
-pub general : TreesAreGeneral
-general s solution sound solves c within =
+pub trees_are_general : TreesAreGeneral
+trees_are_general s solution sound solves c within =
     instances s.cells s.bindings solution sound.down sound.made solves.applications solves.bindings c within

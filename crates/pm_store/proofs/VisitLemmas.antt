@@ -2,11 +2,12 @@
 use Rattle.std.proofs.Common.{◌≡◌, ℕ, ◌<◌, List, [], ◌∷◌, ◌++◌, length, Some, None, map, slice_get, sym, ◌∙◌, ap, subst}
 use Rattle.std.specs.Prelude.{◌≢◌, All, Contains}
 use Rattle.pm_logic.specs.Term.{Term, app, as_terms}
+use Rattle.pm_logic.specs.Filling.{fill}
 use Rattle.pm_store.specs.Entries.{Application}
 use Rattle.pm_store.specs.declared.resolver.Place.{Place}
 use Rattle.pm_store.specs.declared.resolver.Place.TheVariants.{Visit, Build}
 use Rattle.pm_store.specs.Equations.{Equations, end_of}
-use Rattle.pm_store.specs.Trees.{tree, fill, Occurs}
+use Rattle.pm_store.specs.Trees.{tree, Occurs}
 use Rattle.pm_store.specs.Resolved.{Resolved, row_of, with_variables, numbered, HasRow, IsResolved, IsMore}
 use Rattle.pm_store.specs.Inside.Pending.{visits, Proceeds}
 use Rattle.pm_store.proofs.RowLemmas.{row_among-added}

@@ -1,13 +1,14 @@
 -- Laws of solutions, and of marks.
-use Rattle.std.specs.Prelude.{◌≡◌, ◌≢◌, ◌↔◌, ℕ, ◌<◌, ◌≤◌, List, Some, Contains, length, map, slice_get, slice_index_or}
+use Rattle.std.specs.Prelude.{◌≡◌, ◌≢◌, ◌↔◌, ℕ, ◌<◌, ◌≤◌, List, Some, Contains, length, map, slice_get}
 use Rattle.std.specs.List.{fold, flat_map}
 use Rattle.pm_logic.specs.Term.{Term, var, tree_at}
 use Rattle.pm_logic.specs.Variables.{variables, AreNumberedFrom}
+use Rattle.pm_logic.specs.Filling.{fill, put}
 use Rattle.pm_store.specs.Entries.{Entry}
 use Rattle.pm_store.specs.Equations.{Equations, with_cell, with_binding, IsFree}
-use Rattle.pm_store.specs.Solutions.{Solves, with_tree}
+use Rattle.pm_store.specs.Solutions.{Solves, Narrows, with_tree}
 use Rattle.pm_store.specs.Sound.{IsSound}
-use Rattle.pm_store.specs.Trees.{tree, fill, Occurs}
+use Rattle.pm_store.specs.Trees.{tree, Occurs}
 use Rattle.pm_store.specs.Marks.{Counts, counts_of, IsLater, HasMark, at_mark, IsEarlier, bound_since}
 use Rattle.pm_store.specs.Resolved.{Resolved, row_of, IsResolved, numbered, with_variables}
 
@@ -46,6 +47,11 @@ abbrev pub LaterTrees : Type 0
 LaterTrees = (before after : Equations) → IsSound before → IsSound after → IsLater before after
     → (c : ℕ) → c < length before.cells → tree after c ≡ fill (tree after) (tree before c)
 
+-- what solves a store with one more binding solves it without, and makes both cells equal
+abbrev pub BindingsNarrow : Type 0
+BindingsNarrow = (s : Equations) (v t : ℕ) → Narrows s (with_binding s v t)
+    (λ trees. trees v ≡ trees t)
+
 -- a variable that was bound isn't free, now or later
 abbrev pub BoundVariablesStay : Type 0
 BoundVariablesStay = (s after : Equations) (v t : ℕ) → IsLater (with_binding s v t) after
@@ -64,13 +70,13 @@ ResolvedTermsSolve = (s : Equations) (r : Resolved) (table : List Term) → IsSo
     → (solution : ℕ → Term) × Solves s solution × ((cell row : ℕ) → row_of r cell ≡ Some row
     → slice_get table row ≡ Some (solution cell))
 
--- in each solution the trees of these cells are instances of them, by its trees of the free
--- variables
+-- in each solution the trees of these cells are instances of them, by the list of its trees of the
+-- free variables
 abbrev pub ResolvedTermsAreGeneral : Type 0
 ResolvedTermsAreGeneral = (s : Equations) (r : Resolved) (table : List Term) (solution : ℕ → Term)
     → IsSound s → IsResolved s r table → Solves s solution
     → (cell row : ℕ) → cell < length s.cells → row_of r cell ≡ Some row
-    → solution cell ≡ fill (λ n. solution (slice_index_or r.free n 0)) (tree_at table row)
+    → solution cell ≡ put (map solution r.free) (tree_at table row)
 
 -- a store is later than itself, and with one more cell or binding later than before
 pub record Grows (s : Equations) : Type 0 where
@@ -84,8 +90,8 @@ GrowthIsLater = (s : Equations) → Grows s
 abbrev pub LaterIsTransitive : Type 0
 LaterIsTransitive = (a b c : Equations) → IsLater a b → IsLater b c → IsLater a c
 
--- Terms that a resolver numbers one after the other, on from some free variables, have the numbers of
--- new variables by first occurrence.
+-- terms that a resolver numbers one after the other, on from some free variables, have the numbers
+-- of new variables by first occurrence
 abbrev pub NumberedByFirstOccurrence : Type 0
 NumberedByFirstOccurrence = (free : List ℕ) (ts : List Term)
     → AreNumberedFrom (length free)

@@ -3,8 +3,9 @@ use Rattle.std.specs.Prelude.{◌≡◌, ◌≢◌, ℕ, suc, ◌≤◌, ◌==�
 use Rattle.pm_logic.specs.Lists.{AreDistinct}
 use Rattle.pm_logic.specs.Term.{Term, var, app, Terms, no_terms, more_terms}
 use Rattle.pm_logic.specs.Table.{variable_count}
+use Rattle.pm_logic.specs.Filling.{fill}
 use Rattle.pm_store.specs.Equations.{Equations, IsFree}
-use Rattle.pm_store.specs.Trees.{tree, fill, Occurs, IsPart}
+use Rattle.pm_store.specs.Trees.{tree, Occurs, IsPart}
 
 -- the row of each cell that was resolved, and the free variables in the order of their numbers
 pub record Resolved : Type 0 where

@@ -48,16 +48,6 @@ abbrev mutual
   OccursAmong v no_terms = ⊥
   OccursAmong v (more_terms t ts) = Occurs v t ⊎ OccursAmong v ts
 
--- a term with a tree for each of its variables
-abbrev mutual
-  pub fill : (ℕ → Term) → Term → Term
-  fill trees (var n) = trees n
-  fill trees (app symbol args) = app symbol (fill_among trees args)
-
-  pub fill_among : (ℕ → Term) → Terms → Terms
-  fill_among trees no_terms = no_terms
-  fill_among trees (more_terms t ts) = more_terms (fill trees t) (fill_among trees ts)
-
 -- how many variables and symbols stand in a term
 abbrev mutual
   pub size : Term → ℕ

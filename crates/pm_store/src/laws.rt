@@ -1,5 +1,5 @@
 //! The laws of solutions and of marks: each is what a function without a body ensures.
-ghost use Rattle.pm_store.specs.Laws.{TreesSolve, TreesAreGeneral, OtherCellsAreOpen, LaterSolutions, FreeVariablesStand, TreesAreOfFreeVariables, LaterTrees, BoundVariablesStay, CyclesHaveNoSolution, ResolvedTermsSolve, ResolvedTermsAreGeneral, NumberedByFirstOccurrence, GrowthIsLater, LaterIsTransitive, MarksLast, MarksRestore, MarksKeep, MarksNest, BoundSinceTells};
+ghost use Rattle.pm_store.specs.Laws.{TreesSolve, TreesAreGeneral, OtherCellsAreOpen, LaterSolutions, FreeVariablesStand, TreesAreOfFreeVariables, LaterTrees, BindingsNarrow, BoundVariablesStay, CyclesHaveNoSolution, ResolvedTermsSolve, ResolvedTermsAreGeneral, NumberedByFirstOccurrence, GrowthIsLater, LaterIsTransitive, MarksLast, MarksRestore, MarksKeep, MarksNest, BoundSinceTells};
 
 /// A store has a solution: the trees of its cells, in which each free variable stands for itself.
 pub fn trees_solve()
@@ -35,6 +35,11 @@ pub fn trees_are_of_free_variables()
 /// of its variables.
 pub fn later_trees_are_filled()
     ensures { LaterTrees }
+{}
+
+/// The solutions of a store with one more binding are those without it that make both cells equal.
+pub fn bindings_narrow()
+    ensures { BindingsNarrow }
 {}
 
 /// A variable that was bound isn't free, nor is it when the store has grown.

@@ -2,9 +2,10 @@
 ghost use Rattle.std.specs.Prelude.{◌≡◌, ◌≢◌, ◌<◌, ◌≤◌, ◌++◌, ◌∷◌, [], ℕ, Some, None, All, IfOk, OnOk, OnErr, length, map, reverse, slice_get, slice_index_or};
 ghost use Rattle.pm_logic.specs.Term.{Term, tree_at};
 ghost use Rattle.pm_logic.specs.Table.{variable_count};
+ghost use Rattle.pm_logic.specs.Filling.{fill, put};
 ghost use Rattle.pm_store.specs.Equations.{Equations, IsFree};
 ghost use Rattle.pm_store.specs.Solutions.{Solves};
-ghost use Rattle.pm_store.specs.Trees.{tree, fill};
+ghost use Rattle.pm_store.specs.Trees.{tree};
 ghost use Rattle.pm_store.specs.Sound.{IsSound};
 ghost use Rattle.pm_store.specs.declared.resolver.Place.TheVariants.{Visit, Build};
 ghost use Rattle.pm_store.specs.Resolved.{Resolved, nothing_resolved, row_of, with_variables, numbered, IsResolved, IsMore, AddsPartsOf};
@@ -36,7 +37,7 @@ impl Model for Resolver {
     ghost view = { λ a. record { rows = a.rows.entries; free = a.free.items } };
 }
 
-/// What is to be done next about a cell.
+// What is to be done next about a cell.
 #[derive(Clone, Copy, Debug)]
 enum Place {
     // Find its row, unless it has one.
@@ -77,8 +78,8 @@ impl Resolver {
         ensures order { OnOk result (self.new.free
             ≡ with_variables self.old.free (tree store.now a)) }
         ensures resolved { OnOk result (IsResolved store.now self.new into.new) }
-        ensures general { IfOk result (λ row. (trees : ℕ → Term) → Solves store.now trees
-            → trees a ≡ fill (λ n. trees (slice_index_or self.new.free n 0)) (tree_at into.new row)) }
+        ensures general { IfOk result (λ row. (trees : ℕ → Term) → Solves store.now trees → trees a
+            ≡ put (map trees self.new.free) (tree_at into.new row)) }
         ensures noted { IfOk result (λ row. row_of self.new a ≡ Some row) }
         ensures kept { (cell row : ℕ) → row_of self.old cell ≡ Some row
             → row_of self.new cell ≡ Some row }
@@ -191,8 +192,8 @@ impl Resolver {
     ) -> Result<(), AllocError>
         requires within { cell < length store.now.cells }
         requires resolved { IsResolved store.now self.old into.old }
-        ensures ok { OnOk result (Proceeds store.now (Visit cell) self.old into.old pending.old.items
-            self.new into.new pending.new.items) }
+        ensures ok { OnOk result (Proceeds store.now (Visit cell)
+            self.old into.old pending.old.items self.new into.new pending.new.items) }
         ensures more { IsMore self.old into.old self.new into.new }
         ensures rows { OnOk result (AddsRowsOf store.now cell into.old self.new into.new) }
         ensures places { OnOk result (AddsPlacesOf store.now cell pending.old.items

@@ -28,6 +28,15 @@ impl Model for Addr {
     ghost inverse = { λ n. record { 0 = n } };
 }
 
+impl Addr {
+    /// The number of the cell: how many cells of its store were made before it.
+    pub fn number(&self) -> usize
+        ensures { result ≡ self.now }
+    {
+        self.0
+    }
+}
+
 /// What is at the end of the bindings from a cell: a free variable, or a symbol with arguments.
 #[derive(Clone, Copy, Debug)]
 pub enum Cell<'a> {
@@ -338,6 +347,7 @@ mod tests {
         store.bind(z, a)?;
         assert!(rt; store.bound_since(&mark) == [z].as_slice());
         assert_eq!(rt; store.end(z), a);
+        assert_eq!(rt; z.number(), 2);
         assert_eq!(rt; store.len(), 4);
         Ok(())
     }

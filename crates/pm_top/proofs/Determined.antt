@@ -4,10 +4,10 @@ use Rattle.std.specs.Prelude.{IsNone, IsSomeAnd, MatchBool}
 use Rattle.std.specs.FinMap as map
 use Rattle.std.proofs.lemmas.Option.{same_Some}
 use Rattle.pm_logic.specs.Problem as logic
-use Rattle.pm_cnf.specs.Lexemes.{line_of, column_of}
+use Rattle.pm_scan.specs.Lexemes.{line_of, column_of}
 use Rattle.pm_cnf.specs.Meaning.{IsProblemIn}
 use Rattle.pm_cnf.specs.Refusals.{before}
-use Rattle.pm_cnf.specs.Text.{problem_text}
+use Rattle.pm_write.specs.Text.{problem_text}
 use Rattle.pm_cnf.proofs.meaning.Determined.{problem_is_determined, offence_is_determined}
 use Rattle.pm_outside.specs.Outside.{Files}
 use Rattle.pm_deepen.proofs.Determined.{answer_determined}

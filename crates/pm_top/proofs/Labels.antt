@@ -10,7 +10,8 @@ use Rattle.std.proofs.lemmas.List.Elements.{All-head, All-tail, recursion_from_A
 use Rattle.pm_logic.specs.Term.{var, Term}
 use Rattle.pm_logic.specs.Problem.{Literal, Clause, Problem}
 use Rattle.pm_logic.specs.Tableau.{Node, leaf, inner, Nodes, no_nodes, more_nodes, Entry, preorder_of, preorder_among}
-use Rattle.pm_calculus.specs.Substitution.{put, put_in_literal, each_below, each_among, IsInstance, AreComplementary}
+use Rattle.pm_logic.specs.Filling.{put}
+use Rattle.pm_calculus.specs.Substitution.{put_in_literal, each_below, each_among, IsInstance, AreComplementary}
 use Rattle.pm_calculus.specs.Connection.{literal_on, literals_on, IsFamily, HasFamilies, HaveFamilies}
 use Rattle.pm_calculus.specs.Skeleton.{Skeleton, unclosed, closed, extended, Skeletons, no_skeletons, more_skeletons, literals_at}
 use Rattle.pm_calculus.specs.Choices.{at_depth, FitsBelow, FitAmong}

@@ -17,8 +17,8 @@ use Rattle.pm_outside.specs.Outside.{Files}
 use Rattle.pm_top.specs.declared.run.TheConstants.{MAX_FILE_BYTES}
 use Rattle.pm_top.specs.JobWords.{Job, file_of, job_of}
 use Rattle.pm_cnf.specs.declared.error.CnfError.TheVariants.{At}
-use Rattle.pm_cnf.specs.declared.error.CnfKind.{CnfKind}
-use Rattle.pm_cnf.specs.declared.error.Place.{Place}
+use Rattle.pm_scan.specs.declared.offence.CnfKind.{CnfKind}
+use Rattle.pm_scan.specs.declared.offence.Place.{Place}
 use Rattle.pm_cnf.specs.Refusals.{Refuses}
 use Rattle.pm_top.specs.declared.status.Status.{Status}
 use Rattle.pm_top.specs.declared.status.Status.TheVariants as ends

@@ -15,13 +15,13 @@ use Rattle.pm_deepen.specs.Levels.{Options, level_at, IsAnswerOf}
 use Rattle.pm_top.specs.declared.run.TheConstants.{MAX_FILE_BYTES}
 use Rattle.pm_top.specs.declared.status.Status.{Status}
 use Rattle.pm_top.specs.declared.status.Status.TheVariants as ends
-use Rattle.pm_cnf.specs.declared.error.CnfKind.{CnfKind}
+use Rattle.pm_scan.specs.declared.offence.CnfKind.{CnfKind}
 use Rattle.pm_cnf.specs.declared.limits.Limits.{Limits}
-use Rattle.pm_cnf.specs.Lexemes.{line_of, column_of}
+use Rattle.pm_scan.specs.Lexemes.{line_of, column_of}
 use Rattle.pm_cnf.specs.Offences.{IsFirstOffence}
 use Rattle.pm_cnf.specs.Meaning.{IsProblemIn}
 use Rattle.pm_cnf.specs.Refusals.{before}
-use Rattle.pm_cnf.specs.Text.{problem_text}
+use Rattle.pm_write.specs.Text.{problem_text}
 use Rattle.pm_top.specs.JobWords.{Job, prove, clauses, file_of, job_of}
 use Rattle.pm_top.specs.Arguments.{HasNoArguments}
 use Rattle.pm_top.specs.Text.{gave_up, resource_out, bad_words, input_error, arguments_not_built, too_long}

@@ -1,7 +1,7 @@
 -- The texts that a run prints.
 use Rattle.std.specs.Prelude.{ℕ, ◌+◌, List, [], ◌∷◌, ◌++◌, length, codes, decimal}
-use Rattle.pm_cnf.specs.declared.error.CnfKind.{CnfKind}
-use Rattle.pm_cnf.specs.Words.{kind_word}
+use Rattle.pm_scan.specs.declared.offence.CnfKind.{CnfKind}
+use Rattle.pm_scan.specs.Words.{kind_word}
 
 -- level d exhausted attempts N
 abbrev pub level_line : ℕ → ℕ → List ℕ

@@ -22,7 +22,10 @@ impl Face {
     ghost use Rattle.pm_logic.specs.declared.problem.Literal.{Literal};
 
     pub fn of(literal: &Literal) -> Face
-        ensures { result ≡ record { positive = literal.now.positive; predicate = literal.now.predicate } }
+        ensures { result ≡ record {
+          positive = literal.now.positive;
+          predicate = literal.now.predicate;
+        } }
     {
         Face {
             positive: literal.positive,
@@ -131,7 +134,8 @@ impl Goal {
 
     // The branch with the leaf on it.
     fn branch(&self, alloc: Global) -> Result<Vec<Face>, AllocError>
-        ensures { IfOk result (λ branch. branch.items ≡ self.now.above.items ++ self.now.leaf ∷ []) }
+        ensures { IfOk result
+            (λ branch. branch.items ≡ self.now.above.items ++ self.now.leaf ∷ []) }
     {
         let mut branch = Vec::from_slice(alloc, &self.above)?;
         branch.push(self.leaf)?;
@@ -223,7 +227,8 @@ impl<'p> Calculus<'p> {
 
     /// The frame of a state.
     pub fn frame(&self, level: u32, state: &State) -> Frame
-        ensures { result ≡ frame_of self.now.problem.now self.now.start level (Some (state_of state.now)) }
+        ensures { result
+            ≡ frame_of self.now.problem.now self.now.start level (Some (state_of state.now)) }
     {
         Frame {
             width: self.width(level, state),
@@ -295,7 +300,8 @@ impl<'p> Calculus<'p> {
 
     // The extension of this number for a goal.
     fn extension(&self, level: u32, goal: &Goal, number: u32) -> Option<Step>
-        ensures { result ≡ slice_get (extensions self.now.problem.now level (goal_of goal.now)) number }
+        ensures { result
+            ≡ slice_get (extensions self.now.problem.now level (goal_of goal.now)) number }
     {
         if goal.depth() >= level {
             return None;
@@ -460,7 +466,8 @@ impl<'p> Calculus<'p> {
         choices: &[u32],
     ) -> Result<Tableau, AllocError>
         requires level { level ≤ 250 }
-        requires complete { IsComplete (depth_level self.now.problem.now self.now.start level) choices.now }
+        requires complete { IsComplete
+            (depth_level self.now.problem.now self.now.start level) choices.now }
         ensures { IfOk result (λ tableau. IsGeneral
             (depth_level self.now.problem.now self.now.start level) choices.now tableau.tableau) }
     {

@@ -24,7 +24,8 @@ fn are_complementary(leaf: &Literal, ancestor: &Literal) -> bool
 // The depth of the first complementary literal on the branch; 0 where there is none.
 fn closer(branch: &[&Literal], leaf: &Literal) -> usize
     ensures { (terms : List Term)
-        → result ≡ closer (map (λ l. literal_of terms l.now) branch.now) (literal_of terms leaf.now) }
+        → result
+        ≡ closer (map (λ l. literal_of terms l.now) branch.now) (literal_of terms leaf.now) }
 {
     for (i, ancestor) in branch.iter().enumerate() {
         if are_complementary(leaf, *ancestor) {
@@ -111,7 +112,8 @@ fn push_certificate(
     symbols: &Symbols,
     tableau: &Tableau,
 ) -> Result<(), AllocError>
-    ensures { OnOk result (text.new.items ≡ text.old.items ++ certificate symbols.now tableau.now.tableau) }
+    ensures { OnOk result
+        (text.new.items ≡ text.old.items ++ certificate symbols.now tableau.now.tableau) }
 {
     text.extend_from_slice(b"parmel 1 class plain start negative depth ")?;
     push_number(text, u64::from(tableau_depth(tableau)))?;

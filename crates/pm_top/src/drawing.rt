@@ -54,7 +54,8 @@ fn next_open(
     ensures drew { IfOk result (λ next. DrewClosed (reverse pending.old.items)
         (option_to_list next ++ reverse pending.new.items) (preorder tableau.old.tableau)
         (preorder tableau.new.tableau)) }
-    ensures open { IfOk result (λ next. MatchOption next (pending.new.items ≡ []) (λ p. p.closed ≡ false)) }
+    ensures open { IfOk result
+        (λ next. MatchOption next (pending.new.items ≡ []) (λ p. p.closed ≡ false)) }
     ensures nested { IfOk result (λ next. AreNested (deepest_next (preorder tableau.new.tableau))
         (option_to_list next ++ reverse pending.new.items)) }
     ensures root { tableau.new.tableau.root ≡ tableau.old.tableau.root }
@@ -138,7 +139,8 @@ pub fn draw(
     requires bare { HasNoArguments problem.now }
     requires root { root < length problem.now.clauses }
     requires clauses { All (NamesClause (length problem.now.clauses)) steps.now }
-    requires shallow { depth (drawn problem.now.clauses (built problem.now.clauses root steps.now)) ≤ 250 }
+    requires shallow { depth
+        (drawn problem.now.clauses (built problem.now.clauses root steps.now)) ≤ 250 }
     ensures { IfOk result (λ tableau. tableau.tableau
         ≡ drawn problem.now.clauses (built problem.now.clauses root steps.now)) }
 {

@@ -84,7 +84,8 @@ fn found_text(
     work: u64,
 ) -> Result<Vec<u8>, AllocError>
     requires level { level ≤ 250 }
-    requires complete { IsComplete (depth_level calculus.now.problem.now calculus.now.start level) path.now }
+    requires complete { IsComplete
+        (depth_level calculus.now.problem.now calculus.now.start level) path.now }
     ensures { IfOk result (λ text.
         (tableau : Tableau)
         × IsGeneral (depth_level calculus.now.problem.now calculus.now.start level) path.now
@@ -133,7 +134,8 @@ fn has_arguments(problem: &Problem) -> bool
 
 // Whether no literal of the clause has arguments.
 fn is_bare(clause: &Clause) -> bool
-    ensures { result ≡ list_all (λ literal. length literal.args.items == 0) clause.now.literals.items }
+    ensures { result
+        ≡ list_all (λ literal. length literal.args.items == 0) clause.now.literals.items }
 {
     clause
         .literals
@@ -210,7 +212,8 @@ fn answer_words<L: Library>(
     ensures missing { IsErrOf result Fault.Missing
         → Rose (L.misses library.old) (L.misses library.new)
         × IsMissing (map string_bytes words.now) (L.told library.old) }
-    ensures read_fault { IsErrOf result Fault.ReadFault → Rose (L.faults library.old) (L.faults library.new) }
+    ensures read_fault { IsErrOf result Fault.ReadFault
+        → Rose (L.faults library.old) (L.faults library.new) }
     ensures misses { CountsOnly (IsErrOf result Fault.Missing)
         (L.misses library.old) (L.misses library.new) }
     ensures faults { CountsOnly (IsErrOf result Fault.ReadFault)
@@ -258,8 +261,10 @@ pub fn run_alone<L: Library, S: Sink>(
     ensures missing { result ≡ Status.Missing
         → Rose (L.misses library.old) (L.misses library.new)
         × IsMissing (map string_bytes words.now) (L.told library.old) }
-    ensures read_fault { result ≡ Status.ReadFault → Rose (L.faults library.old) (L.faults library.new) }
-    ensures write_fault { result ≡ Status.WriteFault → Rose (S.faults sink.old) (S.faults sink.new) }
+    ensures read_fault { result ≡ Status.ReadFault
+        → Rose (L.faults library.old) (L.faults library.new) }
+    ensures write_fault { result ≡ Status.WriteFault
+        → Rose (S.faults sink.old) (S.faults sink.new) }
 
     // A count changes only where the run ends with its fault. So each of them is as before after
     // want of memory.

@@ -23,7 +23,8 @@ pub struct ClauseSpace<'m, 'p> {
     earlier: Vec<Frame>,
     frame: Frame,
     ghost shallow: { level ≤ 250 },
-    ghost reached: { IsSome (state_after calculus.now.problem.now calculus.now.start level path.items) },
+    ghost reached: { IsSome
+        (state_after calculus.now.problem.now calculus.now.start level path.items) },
     ghost frame_is: { frame ≡ frame_of calculus.now.problem.now calculus.now.start level
         (state_after calculus.now.problem.now calculus.now.start level path.items) },
     ghost earlier_are: { earlier.items
@@ -84,7 +85,8 @@ fn push_both(
     frames: &mut Vec<Frame>,
     frame: Frame,
 ) -> Result<(), AllocError>
-    ensures path { path.new.items ≡ (if is_ok result then path.old.items ++ choice ∷ [] else path.old.items) }
+    ensures path { path.new.items
+        ≡ (if is_ok result then path.old.items ++ choice ∷ [] else path.old.items) }
     ensures frames { frames.new.items
         ≡ (if is_ok result then frames.old.items ++ frame ∷ [] else frames.old.items) }
 {
@@ -99,7 +101,8 @@ fn push_both(
 impl<'m, 'p> Maker for &'m Calculus<'p> {
     type Made = ClauseSpace<'m, 'p>;
 
-    ghost key_at = { λ calculus level. key_of (depth_level calculus.now.problem.now calculus.now.start level) };
+    ghost key_at = { λ calculus level.
+        key_of (depth_level calculus.now.problem.now calculus.now.start level) };
 
     fn make(&self, alloc: Global, level: u32) -> Result<ClauseSpace<'m, 'p>, AllocError> {
         let calculus: &'m Calculus<'p> = *self;
@@ -124,8 +127,10 @@ mod tests {
     // The clause of one literal, the symbol 0 with no arguments.
     fn unit_clause(alloc: Global, positive: bool) -> Result<Clause, AllocError>
         ensures one { IfOk result (λ clause. length clause.literals.items ≡ 1) }
-        ensures symbol { IfOk result (λ clause. All (λ literal. literal.predicate ≡ 0) clause.literals.items) }
-        ensures args { IfOk result (λ clause. All (λ literal. literal.args.items ≡ []) clause.literals.items) }
+        ensures symbol { IfOk result
+            (λ clause. All (λ literal. literal.predicate ≡ 0) clause.literals.items) }
+        ensures args { IfOk result
+            (λ clause. All (λ literal. literal.args.items ≡ []) clause.literals.items) }
     {
         let mut literals = Vec::new(alloc);
         literals.push(Literal {

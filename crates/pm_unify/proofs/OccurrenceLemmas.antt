@@ -8,7 +8,7 @@ use Rattle.pm_store.specs.Equations.{Equations, IsFree}
 use Rattle.pm_store.specs.Sound.{IsSound}
 use Rattle.pm_store.specs.Trees.{tree, Occurs, OccursAmong, size, size_among}
 use Rattle.pm_store.proofs.TermLemmas.{size-positive}
-use Rattle.pm_store.proofs.TreeLemmas.{tree-variable}
+use Rattle.pm_store.proofs.TreeLemmas.{free_variables_stand}
 use Rattle.pm_unify.specs.Inside.Support.{IsSupported, Notes}
 use Rattle.pm_unify.proofs.TurnLemmas.{total-popped, total-replaced}
 use Rattle.pm_unify.proofs.SupportLemmas.{total, all_supported, supported_drop, supported_again, supported_open, supported_enter}
@@ -45,7 +45,7 @@ among_lacks v trees (x ∷ xs) lacks (inr later) = among_lacks v trees xs (All-t
 pub occurs_in_variable : (s : Equations) (v c w : ℕ) (answer : Bool) → IsSound s → IsFree s w → tree s c ≡ tree s w → answer ≡ eqb w v
     → IsTrue answer ↔ Occurs v (tree s c)
 occurs_in_variable s v c w answer sound free is_end is =
-    let shown : tree s c ≡ var w = is_end ∙ tree-variable s w sound free in (
+    let shown : tree s c ≡ var w = is_end ∙ free_variables_stand s w sound free in (
       λ yes. subst (λ (u : Term). Occurs v u) (sym shown) (sym (eqb-true w v (sym is ∙ yes))),
       λ occurs. is ∙ eq-eqb w v (sym (subst (λ (u : Term). Occurs v u) shown occurs)),
     )
@@ -158,12 +158,12 @@ module _ (s : Equations) (v t : ℕ) (now rest visited : List ℕ) (c : ℕ) (is
   -- the variable is the one at the end of the bindings
   pub turn_found : (w : ℕ) → IsSound s → IsFree s w → tree s c ≡ tree s w → v ≡ w → Occurs v (tree s t)
   turn_found w sound free is_end same =
-      All-last (Leads s v t) rest c popped.leads (subst (λ (u : Term). Occurs v u) (sym (is_end ∙ tree-variable s w sound free)) same)
+      All-last (Leads s v t) rest c popped.leads (subst (λ (u : Term). Occurs v u) (sym (is_end ∙ free_variables_stand s w sound free)) same)
 
   pub turn_lacks : (w : ℕ) → IsSound s → IsFree s w → tree s c ≡ tree s w → eqb w v ≡ false → Searches s v t rest visited
   turn_lacks w sound free is_end other =
       search_drops s v t rest visited c
-      (λ occurs. true≢false (sym (eq-eqb w v (sym (subst (λ (u : Term). Occurs v u) (is_end ∙ tree-variable s w sound free) occurs))) ∙ other)) popped
+      (λ occurs. true≢false (sym (eq-eqb w v (sym (subst (λ (u : Term). Occurs v u) (is_end ∙ free_variables_stand s w sound free) occurs))) ∙ other)) popped
 
   pub turn_again : (keys : List ℕ) (is_new : Bool) → Notes visited keys c is_new → is_new ≡ false → Searches s v t rest keys
   turn_again keys is_new noted answer =

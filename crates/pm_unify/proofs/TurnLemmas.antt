@@ -8,7 +8,7 @@ use Rattle.pm_store.specs.Solutions.{Solves}
 use Rattle.pm_store.specs.Trees.{tree, size}
 use Rattle.pm_store.specs.Sound.{IsSound}
 use Rattle.pm_store.proofs.TermLemmas.{size-positive}
-use Rattle.pm_store.proofs.TreeLemmas.{tree-variable}
+use Rattle.pm_store.proofs.TreeLemmas.{free_variables_stand}
 use Rattle.pm_unify.specs.Inside.Support.{Notes}
 use Rattle.pm_unify.specs.Inside.Pairs.{IsEqual, IsPairWithin, AreEqual, pair_size}
 use Rattle.pm_unify.specs.Inside.Steps.{Leaves, Binds}
@@ -52,7 +52,7 @@ numbers_same m n test = eqb-true m n (by (eqb m n) test)
 
 -- a term that isn't this variable
 pub variable_apart : (s : Equations) (v w : ℕ) → IsSound s → IsFree s w → (v ≡ w → ⊥) → tree s w ≢ var v
-variable_apart s v w sound free apart e = apart (sym (inside (sym (tree-variable s w sound free) ∙ e)))
+variable_apart s v w sound free apart e = apart (sym (inside (sym (free_variables_stand s w sound free) ∙ e)))
   where
     inside : var w ≡ var v → w ≡ v
     inside same = cc

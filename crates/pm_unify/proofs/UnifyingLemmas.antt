@@ -8,7 +8,7 @@ use Rattle.pm_store.specs.Solutions.{Solves}
 use Rattle.pm_store.specs.Sound.{IsSound}
 use Rattle.pm_store.specs.Trees.{tree, Occurs}
 use Rattle.pm_store.specs.Marks.{IsLater}
-use Rattle.pm_store.proofs.SolutionLemmas.{Solves-with_binding}
+use Rattle.pm_store.proofs.SolutionLemmas.{bindings_narrow}
 use Rattle.pm_store.proofs.MarkLemmas.{growth_is_later, later_is_transitive}
 use Rattle.pm_store.proofs.CycleLemmas.{cycles_have_no_solution}
 use Rattle.pm_unify.specs.Inside.Pairs.{IsEqual, IsPairWithin, ArePairsWithin, AreEqual, AreSupported, pair_size}
@@ -89,13 +89,13 @@ module _ (old s : Equations) (a b : ℕ) (pending taken : List (ℕ × ℕ)) (un
         λ parts.
             let now = (unifying.same trees).0 parts in
             let left = (binds.leaves.same trees now.0).0 now.1 in
-            ((Solves-with_binding s v t trees).1 (now.0, left.0), left.1),
+            ((bindings_narrow s v t trees).1 (now.0, left.0), left.1),
         λ parts.
-            let before = (Solves-with_binding s v t trees).0 parts.0 in
+            let before = (bindings_narrow s v t trees).0 parts.0 in
             (unifying.same trees).1 (before.0, (binds.leaves.same trees before.0).1 (before.1, parts.1)),
       );
       supported = λ trees solves.
-          let before = (Solves-with_binding s v t trees).0 solves in
+          let before = (bindings_narrow s v t trees).0 solves in
           binds.leaves.supported trees before.0 before.1;
     }
 

@@ -5,10 +5,10 @@ use Rattle.std.specs.Char.{is_ascii_digit}
 use Rattle.std.specs.Str.{bytes_eq}
 use Rattle.std.proofs.lemmas.Slice.Eq.{bytes_eq-Decides}
 use Rattle.std.proofs.lemmas.Option.{same_Some}
-use Rattle.pm_cnf.specs.declared.token.Mark.TheVariants.{OpenParenthesis, CloseParenthesis, OpenBracket, CloseBracket, OpenBrace, CloseBrace, Comma, FullStop, Bar, Tilde}
+use Rattle.pm_scan.specs.declared.token.Mark.TheVariants.{OpenParenthesis, CloseParenthesis, OpenBracket, CloseBracket, OpenBrace, CloseBrace, Comma, FullStop, Bar, Tilde}
 use Rattle.pm_cnf.specs.declared.parser.Expected.{Expected}
 use Rattle.pm_cnf.specs.declared.parser.Expected.TheVariants as expect
-use Rattle.pm_cnf.specs.Lexemes.{Token, lower, upper, number, quoted, dollar, mark}
+use Rattle.pm_scan.specs.Lexemes.{Token, lower, upper, number, quoted, dollar, mark}
 use Rattle.pm_cnf.specs.Grammar.{bare, between_quotes, Term, variable, application, Arguments, no_arguments, more_arguments, Atom, predicate, truth, falsity, Literal, Formula, in_parentheses, disjunction, Bracket, parentheses, brackets, braces, Annotations, no_more, plain, group, Name, word, integer, Item, Begins, nothing, an_item, a_literal, an_atom, Placed, only, term_places, arguments_places, others_places, atom_places, literal_places, others_joined, formula_places, opening, closing, annotations_places, name_token, ending_places, file_places, tokens_of, is_plain_token, AreAnnotations, MayEnd, IsName, IsItem, AreItems}
 use Rattle.pm_cnf.specs.Offences.{AreWhole}
 use Rattle.pm_cnf.specs.Inside.Machine.{ParserState, start, step, run_from, item_step, name_step, role_step, is_constant, atom_step, literal_step, formula_step, formula_end_step, literal_end_step, predicate_end_step, term_step, term_end_step, function_end_step, annotation_step, annotations_end_step, stop_step}

@@ -1,6 +1,6 @@
 -- The step machine goes from token to token, and tells what each of them begins.
 use Rattle.std.proofs.Common.{◌≡◌, List, [], ◌∷◌, ◌++◌, Option, Some, None, refl, sym, ap, subst, ◌∙◌}
-use Rattle.pm_cnf.specs.Lexemes.{Token}
+use Rattle.pm_scan.specs.Lexemes.{Token}
 use Rattle.pm_cnf.specs.Grammar.{Placed, tokens_of}
 use Rattle.pm_cnf.specs.Inside.Machine.{ParserState, start, step, step_from, run_from, run, begun}
 

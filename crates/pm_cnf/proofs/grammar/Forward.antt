@@ -3,10 +3,10 @@ use Rattle.std.proofs.Common.{◌≡◌, ℕ, suc, ◌+◌, Bool, true, false, I
 use Rattle.std.specs.List.{list_all}
 use Rattle.std.specs.Char.{is_ascii_digit}
 use Rattle.std.proofs.lemmas.Bool.{cond-true}
-use Rattle.pm_cnf.specs.declared.token.Mark.TheVariants.{OpenParenthesis, CloseParenthesis, OpenBracket, CloseBracket, OpenBrace, CloseBrace, Comma, FullStop, Bar, Tilde, Equals, Other}
+use Rattle.pm_scan.specs.declared.token.Mark.TheVariants.{OpenParenthesis, CloseParenthesis, OpenBracket, CloseBracket, OpenBrace, CloseBrace, Comma, FullStop, Bar, Tilde, Equals, Other}
 use Rattle.pm_cnf.specs.declared.parser.Expected.{Expected}
 use Rattle.pm_cnf.specs.declared.parser.Expected.TheVariants as expect
-use Rattle.pm_cnf.specs.Lexemes.{Token, lower, upper, number, quoted, distinct, dollar, unequal, mark}
+use Rattle.pm_scan.specs.Lexemes.{Token, lower, upper, number, quoted, distinct, dollar, unequal, mark}
 use Rattle.pm_cnf.specs.Grammar.{bare, between_quotes, Term, variable, application, Arguments, no_arguments, more_arguments, Atom, predicate, truth, falsity, Literal, Formula, in_parentheses, disjunction, Bracket, parentheses, brackets, braces, Annotations, no_more, plain, group, Name, word, integer, Item, nothing, an_atom, Placed, only, term_places, arguments_places, others_places, atom_places, literal_places, others_joined, formula_places, opening, closing, annotations_places, name_token, ending_places, item_places, file_places, tokens_of, is_plain_token, AreAnnotations, MayEnd, IsName, IsItem, AreItems}
 use Rattle.pm_cnf.specs.Inside.Machine.{ParserState, start, step, run}
 use Rattle.pm_cnf.proofs.grammar.Follows.{Follows, follows_append, follows_run}

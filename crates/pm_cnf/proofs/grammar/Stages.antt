@@ -4,10 +4,10 @@ use Rattle.std.specs.List.{list_all}
 use Rattle.std.specs.Char.{is_ascii_digit}
 use Rattle.std.specs.Str.{bytes_eq}
 use Rattle.std.proofs.lemmas.Option.{same_Some, cond_some}
-use Rattle.pm_cnf.specs.declared.token.Mark.TheVariants.{OpenParenthesis, CloseParenthesis, OpenBracket, CloseBracket, OpenBrace, CloseBrace, Comma, FullStop, Bar, Tilde}
+use Rattle.pm_scan.specs.declared.token.Mark.TheVariants.{OpenParenthesis, CloseParenthesis, OpenBracket, CloseBracket, OpenBrace, CloseBrace, Comma, FullStop, Bar, Tilde}
 use Rattle.pm_cnf.specs.declared.parser.Expected.{Expected}
 use Rattle.pm_cnf.specs.declared.parser.Expected.TheVariants as expect
-use Rattle.pm_cnf.specs.Lexemes.{Token, lower, upper, number, quoted, dollar, mark}
+use Rattle.pm_scan.specs.Lexemes.{Token, lower, upper, number, quoted, dollar, mark}
 use Rattle.pm_cnf.specs.Grammar.{Bracket, parentheses, brackets, braces}
 use Rattle.pm_cnf.specs.Inside.Machine.{ParserState, step, run_from, item_step, name_step, role_step, is_constant, atom_step, literal_step, formula_step, formula_end_step, literal_end_step, predicate_end_step, term_step, term_end_step, function_end_step, annotation_step, annotations_end_step, stop_step}
 use Rattle.pm_cnf.proofs.grammar.Forward.{in_formula, in_item, in_annotations}

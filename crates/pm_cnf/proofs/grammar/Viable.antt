@@ -1,10 +1,10 @@
 -- What the state after some tokens tells of them: whether they are whole items, and what may stand after them.
 use Rattle.std.proofs.Common.{◌≡◌, ◌≢◌, ◌↔◌, ℕ, suc, ◌⊎◌, inl, inr, List, [], ◌∷◌, ◌++◌, length, Option, Some, None, refl, sym, ◌∙◌, ap, subst}
 use Rattle.std.proofs.lemmas.Option.{same_Some}
-use Rattle.pm_cnf.specs.declared.token.Mark.TheVariants.{OpenParenthesis, Bar}
+use Rattle.pm_scan.specs.declared.token.Mark.TheVariants.{OpenParenthesis, Bar}
 use Rattle.pm_cnf.specs.declared.parser.Expected.{Expected}
 use Rattle.pm_cnf.specs.declared.parser.Expected.TheVariants as expect
-use Rattle.pm_cnf.specs.Lexemes.{Token, lower, upper, mark}
+use Rattle.pm_scan.specs.Lexemes.{Token, lower, upper, mark}
 use Rattle.pm_cnf.specs.Grammar.{Item, AreItems, Begins, an_item, a_literal, an_argument, a_next_literal, Placed, file_places, tokens_of}
 use Rattle.pm_cnf.specs.Offences.{AreWhole, MayStand, IsAtomPlace, IsTermPlace, MayBegin, IsAllowed, TermMayBegin, EndsWithAtom}
 use Rattle.pm_cnf.specs.Inside.Machine.{ParserState, start, step, step_at, run_from, run, begun, begun_at, innermost, formula_begun, literal_end_begun}

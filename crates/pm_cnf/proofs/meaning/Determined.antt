@@ -6,16 +6,16 @@ use Rattle.pm_logic.specs.Problem as logic
 use Rattle.pm_logic.specs.Term as tree
 use Rattle.pm_logic.specs.Lists.{Gathers}
 use Rattle.pm_logic.proofs.Gathering.{Gathers-same}
-use Rattle.pm_cnf.specs.declared.error.CnfKind.{CnfKind}
-use Rattle.pm_cnf.specs.declared.error.CnfKind.TheVariants.{BadByte, BadToken, UnclosedComment, UnclosedQuote, Unexpected, EndInItem, NotCnf, Include, Equality, Number, DistinctObject, TooManyClauses, TooManyLiterals, TooManyVariables, ArityTooLarge, TooDeep}
-use Rattle.pm_cnf.specs.Lexemes.{Token, tokens_in}
+use Rattle.pm_scan.specs.declared.offence.CnfKind.{CnfKind}
+use Rattle.pm_scan.specs.declared.offence.CnfKind.TheVariants.{BadByte, BadToken, UnclosedComment, UnclosedQuote, Unexpected, EndInItem, NotCnf, Include, Equality, Number, DistinctObject, TooManyClauses, TooManyLiterals, TooManyVariables, ArityTooLarge, TooDeep}
+use Rattle.pm_scan.specs.Lexemes.{Token, tokens_in}
 use Rattle.pm_cnf.specs.Grammar.{Term, variable, application, Arguments, no_arguments, more_arguments, Literal, Item, AreItems, file_places, tokens_of}
 use Rattle.pm_cnf.specs.Offences.{rank}
 use Rattle.pm_cnf.specs.Meaning.{Pairwise, holds_always, is_kept, kept_items, Kept, kept_among, kept_literals, function_of, predicate_of, variables_among, literal_symbols, item_variables, with_texts, IsTreeOf, AreTreesOf, IsLiteralOf, label_of, IsClauseOf, clause_terms, IsProblemOf}
 use Rattle.pm_cnf.specs.Inside.Machine.{start}
 use Rattle.pm_cnf.specs.Inside.Draft.{written, draft_after, nothing_drafted}
 use Rattle.pm_cnf.specs.Laws.{ProblemIsDetermined, OffenceIsDetermined}
-use Rattle.pm_cnf.proofs.lexemes.Chains.{same_place}
+use Rattle.pm_scan.proofs.Chains.{same_place}
 use Rattle.pm_cnf.proofs.meaning.Nodes.{SameItem, items_are}
 use Rattle.pm_cnf.proofs.meaning.GatheredOnce.{HoldsOnce, gathers_once, with_texts_once}
 use Rattle.pm_cnf.proofs.parsed.Drafts.{file_drafts}

@@ -8,13 +8,13 @@ use Rattle.std.proofs.lemmas.Map.Views.{Contains-from_any, list_any-from_Contain
 use Rattle.std.proofs.lemmas.Option.{none-some, same_Some}
 use Rattle.std.proofs.lemmas.Slice.Eq.{bytes_eq-Decides}
 use Rattle.std.proofs.lemmas.Bool.{true≢false, and_parts, not-true, leb-true, leb-false, ltb-true, ltb-false}
-use Rattle.pm_cnf.specs.declared.error.CnfKind.{CnfKind}
-use Rattle.pm_cnf.specs.declared.error.CnfKind.TheVariants.{BadByte, BadToken, UnclosedComment, UnclosedQuote, Unexpected, EndInItem, NotCnf, Include, Equality, Number, DistinctObject, TooManyClauses, TooManyLiterals, TooManyVariables, ArityTooLarge, TooDeep}
+use Rattle.pm_scan.specs.declared.offence.CnfKind.{CnfKind}
+use Rattle.pm_scan.specs.declared.offence.CnfKind.TheVariants.{BadByte, BadToken, UnclosedComment, UnclosedQuote, Unexpected, EndInItem, NotCnf, Include, Equality, Number, DistinctObject, TooManyClauses, TooManyLiterals, TooManyVariables, ArityTooLarge, TooDeep}
 use Rattle.pm_cnf.specs.declared.limits.Limits.{Limits}
-use Rattle.pm_cnf.specs.declared.token.Mark.TheVariants.{Equals}
+use Rattle.pm_scan.specs.declared.token.Mark.TheVariants.{Equals}
 use Rattle.pm_cnf.specs.declared.parser.Expected.{Expected}
 use Rattle.pm_cnf.specs.declared.parser.Expected.TheVariants as expect
-use Rattle.pm_cnf.specs.Lexemes.{Token, lower, upper, number, quoted, distinct, dollar, unequal, mark}
+use Rattle.pm_scan.specs.Lexemes.{Token, lower, upper, number, quoted, distinct, dollar, unequal, mark}
 use Rattle.pm_cnf.specs.Grammar.{Begins, nothing, an_item, a_literal, an_atom, an_argument, a_next_literal}
 use Rattle.pm_cnf.specs.Offences.{IsEquality, Offends, rank, variables}
 use Rattle.pm_cnf.specs.Inside.Machine.{ParserState, expecting, step, step_at, run, begun_at, refusal_of, refusal_at, past_limit, has_too_many_variables, item_refusal, term_refusal, atom_end_refusal}

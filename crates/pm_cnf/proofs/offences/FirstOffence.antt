@@ -3,14 +3,14 @@ use Rattle.std.proofs.Common.{arith, ◌≡◌, ◌≢◌, ◌<◌, ◌≤◌, �
 use Rattle.std.specs.Prelude.{Option, Some, None}
 use Rattle.std.specs.Option.{option_map}
 use Rattle.std.proofs.lemmas.Bool.{cases_eq}
-use Rattle.pm_cnf.specs.declared.error.CnfKind.{CnfKind}
+use Rattle.pm_scan.specs.declared.offence.CnfKind.{CnfKind}
 use Rattle.pm_cnf.specs.declared.limits.Limits.{Limits}
-use Rattle.pm_cnf.specs.declared.token.Mark.TheVariants.{OpenParenthesis, CloseParenthesis, OpenBracket, CloseBracket, OpenBrace, CloseBrace, Comma, FullStop, Bar, Tilde, Equals, Other}
+use Rattle.pm_scan.specs.declared.token.Mark.TheVariants.{OpenParenthesis, CloseParenthesis, OpenBracket, CloseBracket, OpenBrace, CloseBrace, Comma, FullStop, Bar, Tilde, Equals, Other}
 use Rattle.pm_cnf.specs.declared.parser.Expected.TheVariants.{Item}
-use Rattle.pm_cnf.specs.Lexemes.{Token, lower, upper, number, quoted, distinct, dollar, unequal, mark, Lexeme, lexeme_at, Lexes, tokens_in}
+use Rattle.pm_scan.specs.Lexemes.{Token, lower, upper, number, quoted, distinct, dollar, unequal, mark, Lexeme, lexeme_at, Lexes, tokens_in}
 use Rattle.pm_cnf.specs.Offences.{AreWhole, Offends, Applies, next_in, IsOffence, rank, IsFirstOffence, variables, variables_from, with_text}
 use Rattle.pm_cnf.specs.Inside.Machine.{ParserState, start, run, refusal}
-use Rattle.pm_cnf.proofs.lexemes.Chains.{rest_within, same_place, goes_beyond, Lexes-push}
+use Rattle.pm_scan.proofs.Chains.{rest_within, same_place, goes_beyond, Lexes-push}
 
 -- the kind is the first of those of which the token is an offence
 pub record IsFirstKind (limits : Limits) (tokens : List Token) (t : Token) (kind : CnfKind) : Type 0 where

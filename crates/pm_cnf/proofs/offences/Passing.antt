@@ -3,14 +3,14 @@ use Rattle.std.proofs.Common.{arith, ◌≡◌, ◌≢◌, ℕ, List, [], ◌∷
 use Rattle.std.specs.Prelude.{Option, Some, None}
 use Rattle.std.specs.Option.{option_map}
 use Rattle.std.proofs.lemmas.List.{append-nil}
-use Rattle.pm_cnf.specs.declared.error.CnfKind.{CnfKind}
-use Rattle.pm_cnf.specs.declared.error.CnfKind.TheVariants.{EndInItem}
+use Rattle.pm_scan.specs.declared.offence.CnfKind.{CnfKind}
+use Rattle.pm_scan.specs.declared.offence.CnfKind.TheVariants.{EndInItem}
 use Rattle.pm_cnf.specs.declared.limits.Limits.{Limits}
 use Rattle.pm_cnf.specs.declared.parser.Expected.TheVariants.{Item}
-use Rattle.pm_cnf.specs.Lexemes.{Token, Lexeme, gap, token, fault, lexeme_at, tokens_in}
+use Rattle.pm_scan.specs.Lexemes.{Token, Lexeme, gap, token, fault, lexeme_at, tokens_in}
 use Rattle.pm_cnf.specs.Offences.{Applies, next_in, IsOffence, rank, IsFirstOffence, variables}
 use Rattle.pm_cnf.specs.Inside.Machine.{ParserState, step, run, refusal}
-use Rattle.pm_cnf.proofs.lexemes.Chains.{tokens_in-append}
+use Rattle.pm_scan.proofs.Chains.{tokens_in-append}
 use Rattle.pm_cnf.proofs.offences.FirstOffence.{IsFirstKind, IsClean, clean_more, first_here, here}
 use Rattle.pm_cnf.proofs.offences.Deciding.{decides}
 use Rattle.pm_cnf.proofs.grammar.Follows.{run-push}

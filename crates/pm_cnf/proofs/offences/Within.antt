@@ -5,19 +5,19 @@ use Rattle.std.specs.List.{AllByRecursion}
 use Rattle.std.proofs.lemmas.List.{append-nil}
 use Rattle.std.proofs.lemmas.List.Elements.{All-from_recursion}
 use Rattle.std.proofs.lemmas.Bool.{leb-false}
-use Rattle.pm_cnf.specs.declared.error.CnfKind.{CnfKind}
-use Rattle.pm_cnf.specs.declared.error.CnfKind.TheVariants.{TooManyClauses, TooManyLiterals, TooManyVariables}
+use Rattle.pm_scan.specs.declared.offence.CnfKind.{CnfKind}
+use Rattle.pm_scan.specs.declared.offence.CnfKind.TheVariants.{TooManyClauses, TooManyLiterals, TooManyVariables}
 use Rattle.pm_cnf.specs.declared.limits.Limits.{Limits}
 use Rattle.pm_cnf.specs.declared.parser.Expected.TheVariants as expect
-use Rattle.pm_cnf.specs.declared.token.Mark.TheVariants.{CloseParenthesis, Tilde}
-use Rattle.pm_cnf.specs.Lexemes.{Token, mark, Lexeme, gap, token, fault, lexeme_at, Lexes, tokens_in}
+use Rattle.pm_scan.specs.declared.token.Mark.TheVariants.{CloseParenthesis, Tilde}
+use Rattle.pm_scan.specs.Lexemes.{Token, mark, Lexeme, gap, token, fault, lexeme_at, Lexes, tokens_in}
 use Rattle.pm_cnf.specs.Grammar.{Item, AreItems, Formula, in_parentheses, disjunction, Literal, Atom, predicate, truth, falsity, word_token, Begins, an_atom, a_literal, Placed, only, atom_places, literal_places, others_joined, formula_places, ending_places, name_token, item_places, file_places, tokens_of}
 use Rattle.pm_cnf.specs.Offences.{Applies, IsOffence, variables, variables_from}
 use Rattle.pm_cnf.specs.Meaning.{literals_of}
 use Rattle.pm_cnf.specs.Inside.Machine.{ParserState, start, step, run, begun, refusal, refusal_of, refusal_at, past_limit, has_too_many_variables}
 use Rattle.pm_cnf.proofs.grammar.Follows.{Follows, run-push}
 use Rattle.pm_cnf.proofs.grammar.Forward.{in_item, file_follows}
-use Rattle.pm_cnf.proofs.lexemes.Chains.{tokens_in-append, Lexes-push}
+use Rattle.pm_scan.proofs.Chains.{tokens_in-append, Lexes-push}
 use Rattle.pm_cnf.proofs.offences.FirstOffence.{IsClean, clean_start, variables_from-append}
 use Rattle.pm_cnf.proofs.offences.Deciding.{decides, if_none}
 use Rattle.pm_cnf.proofs.offences.Passing.{clean_gap, clean_token, no_offence}

@@ -4,9 +4,9 @@ use Rattle.std.specs.Prelude.{map}
 use Rattle.std.specs.List.{flat_map}
 use Rattle.std.proofs.lemmas.List.Concat.{flat_map-cons}
 use Rattle.std.proofs.lemmas.List.{append-nil, length-append}
-use Rattle.pm_cnf.specs.declared.token.Mark.TheVariants.{CloseParenthesis, Comma, FullStop}
+use Rattle.pm_scan.specs.declared.token.Mark.TheVariants.{CloseParenthesis, Comma, FullStop}
 use Rattle.pm_cnf.specs.declared.parser.Expected.TheVariants as expect
-use Rattle.pm_cnf.specs.Lexemes.{lower, mark}
+use Rattle.pm_scan.specs.Lexemes.{lower, mark}
 use Rattle.pm_cnf.specs.Grammar as grammar
 use Rattle.pm_cnf.specs.Grammar.{Word, bare, between_quotes, Term, variable, application, Arguments, no_arguments, more_arguments, Atom, truth, falsity, Literal, Formula, in_parentheses, disjunction, Bracket, Annotations, no_more, plain, group, Name, integer, Item, nothing, an_atom, Placed, only, term_places, arguments_places, others_places, atom_places, literal_places, others_joined, formula_places, opening, closing, annotations_places, name_token, ending_places, item_places, file_places, tokens_of, AreAnnotations, MayEnd, IsName, IsItem, AreItems}
 use Rattle.pm_cnf.specs.Meaning.{argument_count, literals_of}

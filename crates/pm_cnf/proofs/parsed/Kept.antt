@@ -10,15 +10,15 @@ use Rattle.std.specs.Char.{is_ascii_lowercase}
 use Rattle.pm_logic.specs.Problem.{Symbol, IsPrintable}
 use Rattle.pm_logic.specs.Word.{is_word_byte, is_lower_word}
 use Rattle.pm_cnf.specs.declared.limits.Limits.{Limits}
-use Rattle.pm_cnf.specs.declared.token.Mark.TheVariants.{CloseParenthesis, Tilde}
-use Rattle.pm_cnf.specs.Lexemes.{Token, Lexeme, mark, Lexes, tokens_in}
+use Rattle.pm_scan.specs.declared.token.Mark.TheVariants.{CloseParenthesis, Tilde}
+use Rattle.pm_scan.specs.Lexemes.{Token, Lexeme, mark, Lexes, tokens_in}
 use Rattle.pm_cnf.specs.Grammar.{Word, bare, between_quotes, word_text, Term, variable, application, Arguments, no_arguments, more_arguments, Atom, predicate, truth, falsity, Literal, Formula, in_parentheses, disjunction, Name, word, integer, Item, AreItems, Begins, an_atom, a_literal, Placed, only, word_token, term_places, arguments_places, others_places, atom_places, literal_places, others_joined, formula_places, ending_places, name_token, item_places, file_places, tokens_of}
 use Rattle.pm_cnf.specs.Meaning.{literals_of, Kept, kept_from, kept_among, symbols_in, symbols_among, literal_symbols, item_symbols}
 use Rattle.pm_cnf.specs.Inside.Draft.{term_nodes, arguments_nodes, atom_nodes, literal_nodes, written}
 use Rattle.pm_cnf.specs.Inside.Readable.{HasPrintableName, AreReadable}
-use Rattle.pm_cnf.proofs.lexemes.Forms.{tokens_have_form, tokens_fit}
+use Rattle.pm_scan.proofs.Forms.{tokens_have_form, tokens_fit}
 use Rattle.pm_cnf.proofs.offences.Within.{IsSound, sound_within, file_within}
-use Rattle.pm_cnf.specs.Inside.Scan.{HasForm}
+use Rattle.pm_scan.specs.Forms.{HasForm}
 use Rattle.pm_cnf.proofs.Lists.{AllByRecursion-append}
 
 -- ---- words

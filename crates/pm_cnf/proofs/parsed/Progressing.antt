@@ -3,15 +3,15 @@ use Rattle.std.proofs.Common.{arith, ◌≡◌, ◌≢◌, ◌<◌, ◌≤◌, �
 use Rattle.std.specs.Prelude.{map, Ok, Err}
 use Rattle.std.proofs.lemmas.List.{append-nil, drop-drop, length-drop, take_all}
 use Rattle.std.proofs.lemmas.Option.{none-some}
-use Rattle.pm_cnf.specs.declared.error.CnfKind.{CnfKind}
-use Rattle.pm_cnf.specs.declared.error.CnfKind.TheVariants.{EndInItem}
+use Rattle.pm_scan.specs.declared.offence.CnfKind.{CnfKind}
+use Rattle.pm_scan.specs.declared.offence.CnfKind.TheVariants.{EndInItem}
 use Rattle.pm_cnf.specs.declared.limits.Limits.{Limits}
 use Rattle.pm_cnf.specs.declared.parser.Parser.{Parser}
 use Rattle.pm_cnf.specs.declared.parser.Expected.TheVariants.{Item}
 use Rattle.pm_cnf.specs.declared.error.CnfError.{CnfError}
 use Rattle.pm_cnf.specs.declared.parser.Refusal.{Refusal}
 use Rattle.pm_cnf.specs.declared.parser.Refusal.TheVariants as refusals
-use Rattle.pm_cnf.specs.Lexemes.{Token, Lexeme, gap, token, fault, lexeme_at, Lexes, tokens_in}
+use Rattle.pm_scan.specs.Lexemes.{Token, Lexeme, gap, token, fault, lexeme_at, Lexes, tokens_in}
 use Rattle.pm_cnf.specs.Grammar as grammar
 use Rattle.pm_cnf.specs.Offences.{AreWhole, IsFirstOffence, variables, variables_from}
 use Rattle.pm_cnf.specs.Inside.Machine.{ParserState, start, step, run, run_from, refusal}
@@ -22,7 +22,7 @@ use Rattle.pm_cnf.specs.Meaning.{IsProblemOf, IsProblemIn}
 use Rattle.pm_cnf.specs.Inside.Readable.{IsRead, AreReadable}
 use Rattle.pm_cnf.specs.Inside.Progress.{Progress, AcceptsLexeme, RefusesAt}
 use Rattle.pm_cnf.specs.Refusals.{Refuses}
-use Rattle.pm_cnf.proofs.lexemes.Chains.{tokens_in-append, lexeme_sized}
+use Rattle.pm_scan.proofs.Chains.{tokens_in-append, lexeme_sized}
 use Rattle.pm_cnf.proofs.offences.FirstOffence.{IsClean, clean_start, variables_from-append}
 use Rattle.pm_cnf.proofs.grammar.Follows.{run_none}
 use Rattle.pm_cnf.proofs.offences.Passing.{clean_gap, clean_token, refused_here, fault_here, end_here, no_offence}

@@ -5,7 +5,7 @@ use Rattle.std.specs.Str.{bytes_eq}
 use Rattle.std.proofs.lemmas.Bool.{and_from, and_left, and_right, not_from_true, not_from_false, le-leb, lt-leb}
 use Rattle.std.proofs.lemmas.List.{length-map}
 use Rattle.pm_cnf.specs.declared.limits.Limits.{Limits}
-use Rattle.pm_cnf.specs.Lexemes.{upper}
+use Rattle.pm_scan.specs.Lexemes.{upper}
 use Rattle.pm_cnf.specs.Inside.Machine.{has_too_many_variables}
 use Rattle.pm_cnf.specs.Inside.Parts.{texts_of}
 use Rattle.pm_cnf.proofs.parts.TextLemmas.{any_text}

@@ -10,10 +10,10 @@ use Rattle.pm_logic.specs.Problem.{IsPrintable}
 use Rattle.pm_logic.specs.Lists.{Gathers}
 use Rattle.pm_logic.proofs.Gathering.{Gathers-all}
 use Rattle.pm_cnf.specs.declared.limits.Limits.{Limits}
-use Rattle.pm_cnf.specs.Lexemes.{Token}
+use Rattle.pm_scan.specs.Lexemes.{Token}
 use Rattle.pm_cnf.specs.Grammar.{Name, word, integer, Item, AreItems, IsName, Formula, in_parentheses, disjunction, Atom, predicate, truth, falsity, Literal, item_places, file_places, tokens_of}
 use Rattle.pm_cnf.specs.Meaning.{Pairwise, literals_of, is_kept, kept_items, Kept, kept_from, kept_among, kept_literals, literal_symbols, item_variables, with_texts, IsClauseOf, IsProblemIn, item_symbols}
-use Rattle.pm_cnf.specs.Text.{variable_text, clause_text, problem_text}
+use Rattle.pm_write.specs.Text.{variable_text, clause_text, problem_text}
 use Rattle.pm_cnf.proofs.offences.Within.{Within, sound_within, within_sound, file_within}
 use Rattle.pm_cnf.proofs.parsed.Kept.{HaveForm, HavePrintableTexts, form_append, printable_append, items_printable, file_formed}
 use Rattle.pm_cnf.proofs.written.Limited.{IsLimited, items_limited, tokens_append}

@@ -8,15 +8,15 @@ use Rattle.pm_logic.specs.Problem as logic
 use Rattle.pm_logic.specs.Problem.{IsPrintable}
 use Rattle.pm_logic.specs.Term as tree
 use Rattle.pm_logic.specs.Word.{written_symbol, is_word_byte, written_word}
-use Rattle.pm_cnf.specs.declared.token.Mark.TheVariants.{OpenParenthesis, CloseParenthesis, Comma, FullStop, Bar, Tilde}
-use Rattle.pm_cnf.specs.Lexemes.{Token, lower, upper, dollar, mark, begins}
+use Rattle.pm_scan.specs.declared.token.Mark.TheVariants.{OpenParenthesis, CloseParenthesis, Comma, FullStop, Bar, Tilde}
+use Rattle.pm_scan.specs.Lexemes.{Token, lower, upper, dollar, mark, begins}
 use Rattle.pm_cnf.specs.Grammar.{word_text, Term, variable, application, Arguments, no_arguments, more_arguments, predicate, falsity, Literal, Formula, in_parentheses, disjunction, Name, word, integer, Item, Begins, an_atom, a_literal, Placed, only, word_token, term_places, arguments_places, others_places, atom_places, literal_places, others_joined, formula_places, ending_places, name_token, item_places, tokens_of, IsName}
 use Rattle.pm_cnf.specs.Meaning.{Pairwise, Kept, kept_literals, item_variables, function_of, predicate_of, IsTreeOf, AreTreesOf, IsLiteralOf, label_of, IsClauseOf}
-use Rattle.pm_cnf.specs.Text.{variable_text, symbol_text, term_text, arguments_text, others_text, literal_text, literals_text, name_text, clause_text}
+use Rattle.pm_write.specs.Text.{variable_text, symbol_text, term_text, arguments_text, others_text, literal_text, literals_text, name_text, clause_text}
 use Rattle.pm_cnf.proofs.parsed.Kept.{word_printable}
 use Rattle.pm_cnf.proofs.written.Limited.{tokens_append}
 use Rattle.pm_cnf.proofs.written.WrittenWords.{HasTokens, reads_token, reads_gap, lower_reads, plain_word, word_reads, number_reads, variable_reads}
-use Rattle.pm_cnf.specs.Inside.Scan.{HasForm}
+use Rattle.pm_scan.specs.Forms.{HasForm}
 
 -- the first place of a text
 abbrev pub place_of : List (List ℕ) → List ℕ → ℕ

@@ -4,10 +4,10 @@ use Rattle.std.specs.Prelude.{Some, None, map, nat_le, not, ◌&&◌, if◌then�
 use Rattle.std.specs.List.{AllByRecursion, flat_map, list_any}
 use Rattle.std.specs.Str.{bytes_eq}
 use Rattle.std.proofs.lemmas.Bool.{cond-false, lt-leb}
-use Rattle.pm_cnf.specs.declared.error.CnfKind.TheVariants.{TooManyClauses, TooManyLiterals}
+use Rattle.pm_scan.specs.declared.offence.CnfKind.TheVariants.{TooManyClauses, TooManyLiterals}
 use Rattle.pm_cnf.specs.declared.limits.Limits.{Limits}
-use Rattle.pm_cnf.specs.declared.token.Mark.TheVariants.{CloseParenthesis, Comma, Tilde}
-use Rattle.pm_cnf.specs.Lexemes.{lower, upper, mark}
+use Rattle.pm_scan.specs.declared.token.Mark.TheVariants.{CloseParenthesis, Comma, Tilde}
+use Rattle.pm_scan.specs.Lexemes.{lower, upper, mark}
 use Rattle.pm_cnf.specs.Grammar.{Word, bare, between_quotes, word_text, Term, variable, application, Arguments, no_arguments, more_arguments, Formula, in_parentheses, Name, word, integer, Item, Begins, an_item, a_literal, an_atom, an_argument, nothing, Placed, only, word_token, term_places, arguments_places, others_places, atom_places, literal_places, others_joined, formula_places, ending_places, name_token, item_places, file_places, tokens_of}
 use Rattle.pm_cnf.specs.Offences.{with_text, variables_from}
 use Rattle.pm_cnf.specs.Meaning.{Kept, kept_literals, variables_in, variables_among, with_texts, item_variables}

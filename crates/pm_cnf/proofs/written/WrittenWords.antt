@@ -13,12 +13,12 @@ use Rattle.std.proofs.Math.Seq.{take-append_seam, drop-append_seam}
 use Rattle.pm_logic.specs.Problem.{IsPrintable}
 use Rattle.pm_logic.specs.Word as words
 use Rattle.pm_logic.specs.Word.{is_word_byte, is_lower_word, escaped, written_word}
-use Rattle.pm_cnf.specs.Lexemes.{Token, lower, upper, number, quoted, Lexeme, gap, token, begins, is_blank, is_slash, is_star, is_sign, sign_len, digits_len, begins_number, integer_len, fraction_len, exponent_len, decimal_len, number_len, is_plain_byte, closed, later, ending, text_of, between_marks, quoted_word, quoted_at, word_at, lexeme_at, Lexes, tokens_in}
+use Rattle.pm_scan.specs.Lexemes.{Token, lower, upper, number, quoted, Lexeme, gap, token, begins, is_blank, is_slash, is_star, is_sign, sign_len, digits_len, begins_number, integer_len, fraction_len, exponent_len, decimal_len, number_len, is_plain_byte, closed, later, ending, text_of, between_marks, quoted_word, quoted_at, word_at, lexeme_at, Lexes, tokens_in}
 use Rattle.pm_cnf.specs.Grammar.{Word, bare, between_quotes, word_token}
-use Rattle.pm_cnf.specs.Text.{variable_text}
-use Rattle.pm_cnf.proofs.lexemes.Scanning.{prefix_len-yes, prefix_len-no, and_no-first, quoted_word-some}
+use Rattle.pm_write.specs.Text.{variable_text}
+use Rattle.pm_scan.proofs.Scanning.{prefix_len-yes, prefix_len-no, and_no-first, quoted_word-some}
 use Rattle.pm_cnf.proofs.offences.Within.{HasNoFault}
-use Rattle.pm_cnf.proofs.lexemes.Forms.{text_of-plain}
+use Rattle.pm_scan.proofs.Forms.{text_of-plain}
 
 -- lexemes lead from the bytes to the rest, without a fault, and these are their tokens
 pub record HasTokens (bytes : List ℕ) (tokens : List Token) (rest : List ℕ) : Type 0 where

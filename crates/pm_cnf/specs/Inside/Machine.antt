@@ -3,13 +3,13 @@ use Rattle.std.specs.Prelude.{ℕ, zero, suc, ◌&&◌, ◌||◌, nat_le, nat_lt
 use Rattle.std.specs.List.{list_all, list_any}
 use Rattle.std.specs.Char.{is_ascii_digit}
 use Rattle.std.specs.Str.{bytes_eq}
-use Rattle.pm_cnf.specs.declared.token.Mark.TheVariants.{OpenParenthesis, CloseParenthesis, OpenBracket, CloseBracket, OpenBrace, CloseBrace, Comma, FullStop, Bar, Tilde, Equals}
+use Rattle.pm_scan.specs.declared.token.Mark.TheVariants.{OpenParenthesis, CloseParenthesis, OpenBracket, CloseBracket, OpenBrace, CloseBrace, Comma, FullStop, Bar, Tilde, Equals}
 use Rattle.pm_cnf.specs.declared.parser.Expected.{Expected}
 use Rattle.pm_cnf.specs.declared.parser.Expected.TheVariants as expect
-use Rattle.pm_cnf.specs.declared.error.CnfKind.{CnfKind}
-use Rattle.pm_cnf.specs.declared.error.CnfKind.TheVariants as kinds
+use Rattle.pm_scan.specs.declared.offence.CnfKind.{CnfKind}
+use Rattle.pm_scan.specs.declared.offence.CnfKind.TheVariants as kinds
 use Rattle.pm_cnf.specs.declared.limits.Limits.{Limits}
-use Rattle.pm_cnf.specs.Lexemes.{Token, lower, upper, number, quoted, distinct, dollar, unequal, mark}
+use Rattle.pm_scan.specs.Lexemes.{Token, lower, upper, number, quoted, distinct, dollar, unequal, mark}
 use Rattle.pm_cnf.specs.Grammar.{Bracket, parentheses, brackets, braces, Begins, nothing, an_item, a_literal, an_atom, an_argument, a_next_literal}
 
 -- What was read: so many whole items; of the item that is being read the parentheses that are open

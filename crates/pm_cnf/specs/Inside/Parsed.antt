@@ -1,8 +1,8 @@
 -- What a parser has read.
 use Rattle.std.specs.Prelude.{◌≡◌, ◌≢◌, ℕ, true, false, List, [], ◌∷◌, map, reverse, length, Result, Ok, Err, Option, Some, None}
-use Rattle.pm_cnf.specs.declared.error.CnfKind.{CnfKind}
-use Rattle.pm_cnf.specs.declared.error.CnfKind.TheVariants as kinds
-use Rattle.pm_cnf.specs.declared.token.Mark.{Mark}
+use Rattle.pm_scan.specs.declared.offence.CnfKind.{CnfKind}
+use Rattle.pm_scan.specs.declared.offence.CnfKind.TheVariants as kinds
+use Rattle.pm_scan.specs.declared.token.Mark.{Mark}
 use Rattle.pm_cnf.specs.declared.item.Word as word
 use Rattle.pm_cnf.specs.declared.item.Word.TheVariants as words
 use Rattle.pm_cnf.specs.declared.item.Name as name
@@ -18,7 +18,7 @@ use Rattle.pm_cnf.specs.declared.parser.Expected.TheVariants as expect
 use Rattle.pm_cnf.specs.declared.parser.Refusal.{Refusal}
 use Rattle.pm_cnf.specs.declared.parser.Refusal.TheVariants as refusals
 use Rattle.pm_cnf.specs.declared.parser.Parser.{Parser}
-use Rattle.pm_cnf.specs.Lexemes.{Token, upper, mark, text_of}
+use Rattle.pm_scan.specs.Lexemes.{Token, upper, mark, text_of}
 use Rattle.pm_cnf.specs.Grammar as grammar
 use Rattle.pm_cnf.specs.Grammar.{an_argument}
 use Rattle.pm_cnf.specs.Offences.{with_text, variables_from}

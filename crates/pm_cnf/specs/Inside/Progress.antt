@@ -3,12 +3,12 @@ use Rattle.std.specs.Prelude.{◌≡◌, ℕ, ◌≤◌, List, length, drop, Som
 use Rattle.pm_cnf.specs.declared.limits.Limits.{Limits}
 use Rattle.pm_cnf.specs.declared.error.CnfError.{CnfError}
 use Rattle.pm_cnf.specs.declared.error.CnfError.TheVariants.{At, Memory}
-use Rattle.pm_cnf.specs.declared.error.CnfKind.{CnfKind}
-use Rattle.pm_cnf.specs.declared.error.Place.{Place}
+use Rattle.pm_scan.specs.declared.offence.CnfKind.{CnfKind}
+use Rattle.pm_scan.specs.declared.offence.Place.{Place}
 use Rattle.pm_cnf.specs.declared.parser.Parser.{Parser}
 use Rattle.pm_cnf.specs.declared.parser.Refusal.{Refusal}
 use Rattle.pm_cnf.specs.declared.parser.Refusal.TheVariants as refusals
-use Rattle.pm_cnf.specs.Lexemes.{Lexeme, gap, token, fault, Lexes, tokens_in}
+use Rattle.pm_scan.specs.Lexemes.{Lexeme, gap, token, fault, Lexes, tokens_in}
 use Rattle.pm_cnf.specs.Offences.{IsOffence, variables}
 use Rattle.pm_cnf.specs.Refusals.{BeginsAt}
 use Rattle.pm_cnf.specs.Inside.Machine.{start, run}

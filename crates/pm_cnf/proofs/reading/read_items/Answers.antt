@@ -1,6 +1,6 @@
 use Rattle.std.proofs.Common.{◌≡◌, ◌∙◌, ap, sym, subst, refl, map, false, Bool}
 use Rattle.std.specs.Bool.{IsTrue}
-use Rattle.pm_cnf.specs.Lexemes.{lexeme_at}
+use Rattle.pm_scan.specs.Lexemes.{lexeme_at}
 use Rattle.pm_cnf.specs.Inside.Parsed.{item_of}
 use Rattle.pm_cnf.specs.Inside.Readable.{IsRead}
 use Rattle.pm_cnf.proofs.parsed.Progressing.{progress_start, progress_lexeme, lexeme_refuses, cut_refuses, progress_end, rest_is}

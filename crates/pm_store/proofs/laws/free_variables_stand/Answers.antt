@@ -1,5 +1,5 @@
-use Rattle.pm_store.proofs.TreeLemmas.{tree-variable}
+use Rattle.pm_store.proofs.TreeLemmas.{free_variables_stand}
 use Rattle.pm_store.proofs.laws.free_variables_stand.Goals as goal
 
 pub returns : goal.returns
-returns c = tree-variable
+returns c = free_variables_stand

@@ -1,5 +1,5 @@
-use Rattle.pm_store.proofs.TreeLemmas.{general}
+use Rattle.pm_store.proofs.TreeLemmas.{trees_are_general}
 use Rattle.pm_store.proofs.laws.trees_are_general.Goals as goal
 
 pub returns : goal.returns
-returns c = general
+returns c = trees_are_general

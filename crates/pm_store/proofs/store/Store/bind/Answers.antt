@@ -2,7 +2,7 @@ use Rattle.std.proofs.Common.{◌≡◌, ◌+◌, sym, ◌∙◌, ap, subst}
 use Rattle.std.specs.Prelude.{◌↔◌}
 use Rattle.pm_store.specs.Equations.{Equations, free_count}
 use Rattle.pm_store.specs.Solutions.{Solves}
-use Rattle.pm_store.proofs.SolutionLemmas.{Solves-with_binding}
+use Rattle.pm_store.proofs.SolutionLemmas.{bindings_narrow}
 use Rattle.pm_store.proofs.StoredLemmas.{free_count-bind}
 use Rattle.pm_store.proofs.FlatLemmas.{bound_flat}
 use Rattle.pm_store.proofs.store.Store.bind.Goals as goal
@@ -21,7 +21,7 @@ returns c =
       ok = is;
       solutions = λ trees.
           subst (λ (s : Equations). Solves s trees ↔ (Solves c.args.self.now trees × (trees c.args.v ≡ trees c.args.t))) (sym is)
-          (Solves-with_binding c.args.self.now c.args.v c.args.t trees);
+          (bindings_narrow c.args.self.now c.args.v c.args.t trees);
       free = ap (λ s. free_count s + 1) is ∙ free_count-bind c.args.self.now c.args.v c.args.t c.requires.free;
       sound = done.0.stored.sound;
       err = tt;

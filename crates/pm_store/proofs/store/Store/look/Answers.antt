@@ -1,7 +1,7 @@
 use Rattle.std.proofs.Common.{◌∙◌, ap, length, arith}
 use Rattle.std.specs.Prelude.{Some}
 use Rattle.pm_store.specs.Inside.Slots.{entry_of, start_in, count_in}
-use Rattle.pm_store.proofs.TreeLemmas.{solved}
+use Rattle.pm_store.proofs.TreeLemmas.{trees_solve}
 use Rattle.pm_store.proofs.LookLemmas.{Ends, variable_in, read_cell, arguments_within, part_is, application_solved, application_shown}
 use Rattle.pm_store.proofs.store.Store.look.Goals as goal
 
@@ -18,7 +18,7 @@ returns-in-Made c =
     let same = part_is c.in-Made.start c.in-Made.count _ _ c.deref.ensures.value in
     record {
       shown = application_shown _ _ _ _ _ _ c.end-end.ensures.sound found same;
-      tree = application_solved _ _ _ _ _ _ found same _ (solved _ c.end-end.ensures.sound);
+      tree = application_solved _ _ _ _ _ _ found same _ (trees_solve _ c.end-end.ensures.sound);
       solutions = application_solved _ _ _ _ _ _ found same;
       sound = c.end-end.ensures.sound;
     }
@@ -29,7 +29,7 @@ returns-in_default c =
     ∙ ap Some (variable_in c.self.inside.args.items _ c.in_default.not-Made) in
     record {
       shown = (c.end-end.ensures.end, record { variable = stands; unbound = c.end-end.ensures.unbound });
-      tree = c.end-end.ensures.solutions _ (solved _ c.end-end.ensures.sound);
+      tree = c.end-end.ensures.solutions _ (trees_solve _ c.end-end.ensures.sound);
       solutions = c.end-end.ensures.solutions;
       sound = c.end-end.ensures.sound;
     }

@@ -8,7 +8,7 @@ use Rattle.pm_store.specs.Trees.{Occurs}
 use Rattle.pm_store.specs.Sound.{CanBind, IsSound}
 use Rattle.pm_store.specs.Growth.{GainsVariable}
 use Rattle.pm_store.proofs.ListLemmas.{if_other}
-use Rattle.pm_store.proofs.TreeLemmas.{tree-variable}
+use Rattle.pm_store.proofs.TreeLemmas.{free_variables_stand}
 use Rattle.pm_store.proofs.GrowthLemmas.{free_kept}
 use Rattle.pm_store.proofs.store.tests.lengthen.Goals as goal
 
@@ -23,7 +23,7 @@ binds : (old new : Equations) (v w : ℕ) → new ≡ with_cell old Variable →
 binds old new v w is place sound free was = record {
   free = subst (λ (s : Equations). IsFree s v) (sym is) (free_kept old Variable v was);
   within = slice_get_within new.cells w Variable free.variable;
-  apart = λ occurs. apart old v w was place (subst (λ (u : Term). Occurs v u) (tree-variable new w sound free) occurs);
+  apart = λ occurs. apart old v w was place (subst (λ (u : Term). Occurs v u) (free_variables_stand new w sound free) occurs);
 }
 
 stays_free : (old new after : Equations) (v w : ℕ) → after ≡ with_binding new v w → w ≡ length old.cells → IsFree new w → IsFree old v → IsFree after w

@@ -2,7 +2,7 @@ use Rattle.std.proofs.Common.{◌≡◌, map, ◌∙◌, sym, ap, eqb-true}
 use Rattle.pm_logic.specs.Term.{app, as_terms}
 use Rattle.pm_store.specs.Trees.{tree}
 use Rattle.std.proofs.lemmas.Option.{slice_get_within}
-use Rattle.pm_store.proofs.TreeLemmas.{solved}
+use Rattle.pm_store.proofs.TreeLemmas.{trees_solve}
 use Rattle.pm_unify.proofs.LeavesLemmas.{leaves_all}
 use Rattle.pm_unify.proofs.TurnLemmas.{pairs_fewer, total-replaced, parts_smaller, numbers_differ, numbers_same, variable_apart, application_apart, turn_equal, turn_binds_left, turn_binds_right, turn_clashes, turn_again, turn_apart}
 use Rattle.pm_unify.specs.Inside.Pairs.{pair_size}
@@ -38,13 +38,13 @@ returns-then-ne c =
 pub returns-in-App-look : goal.returns-in-App-look
 returns-in-App-look c =
     turn_binds_left _ _ _ _ _ _ _ c.in-Some.ensures.items c.loop-a.invariant c.in-Free.v _ c.in-Free.ensures.shown.1 c.end.ensures.within
-    (application_apart _ _ _ _ _ (c.end.ensures.solutions _ (solved _ c.requires.sound)) c.in-App-look.ensures.tree)
+    (application_apart _ _ _ _ _ (c.end.ensures.solutions _ (trees_solve _ c.requires.sound)) c.in-App-look.ensures.tree)
     c.in-Free.ensures.solutions c.end.ensures.solutions
 
 pub returns-in-Free-look-2 : goal.returns-in-Free-look-2
 returns-in-Free-look-2 c =
     turn_binds_right _ _ _ _ _ _ _ c.in-Some.ensures.items c.loop-a.invariant c.in-Free-look-2.w _ c.in-Free-look-2.ensures.shown.1 c.end-in-Free-look-2.ensures.within
-    (application_apart _ _ _ _ _ (c.end-in-Free-look-2.ensures.solutions _ (solved _ c.requires.sound)) c.in-App.ensures.tree)
+    (application_apart _ _ _ _ _ (c.end-in-Free-look-2.ensures.solutions _ (trees_solve _ c.requires.sound)) c.in-App.ensures.tree)
     c.in-Free-look-2.ensures.solutions c.end-in-Free-look-2.ensures.solutions
 
 pub returns-then-f-g : goal.returns-then-f-g

@@ -1,5 +1,0 @@
-use Rattle.pm_cnf.proofs.lexemes.Scanning.{IsAscii-number}
-use Rattle.pm_cnf.proofs.scan.number.Goals as goal
-
-pub as_str-requires : goal.as_str-requires
-as_str-requires c = rw c.number_len.ensures.len (IsAscii-number c.args.bytes.now)

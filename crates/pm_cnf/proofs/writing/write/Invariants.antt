@@ -1,8 +1,0 @@
-use Rattle.std.proofs.Common.{◌≡◌, take}
-use Rattle.std.specs.List.{flat_map}
-use Rattle.pm_cnf.specs.Text.{clause_text}
-use Rattle.pm_cnf.proofs.writing.write.Given as goal
-
--- the clauses so far are written
-abbrev pub invariant-loop-i : goal.invariant-loop-i
-invariant-loop-i l = l.text.items ≡ flat_map (clause_text l.problem.symbols) (take l.i l.problem.clauses)

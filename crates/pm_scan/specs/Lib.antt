@@ -1,0 +1,5 @@
+pub mod Words
+pub mod Lexemes
+pub mod View
+pub mod Forms
+pub mod Inside

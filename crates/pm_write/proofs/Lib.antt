@@ -1,0 +1,2 @@
+pub mod PendingText
+pub mod OverSymbols
