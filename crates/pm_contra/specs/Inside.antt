@@ -1,0 +1,4 @@
+-- Models of private code: no public contract names them.
+pub mod Entries
+pub mod Ranges
+pub mod Example
