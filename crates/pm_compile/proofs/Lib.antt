@@ -1,0 +1,10 @@
+pub mod GroundLemmas
+pub mod SchemeLemmas
+pub mod AppendLemmas
+pub mod OverLemmas
+pub mod HeadLemmas
+pub mod BuildLemmas
+pub mod SpanLemmas
+pub mod ClauseLemmas
+pub mod LawLemmas
+pub mod ListingLemmas
