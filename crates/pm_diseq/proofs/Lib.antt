@@ -1,0 +1,9 @@
+pub mod SupportLemmas
+pub mod PlaceLemmas
+pub mod CompareLemmas
+pub mod NotedLemmas
+pub mod EntryLemmas
+pub mod PoolLemmas
+pub mod StandingLemmas
+pub mod WalkLemmas
+pub mod TrialLemmas

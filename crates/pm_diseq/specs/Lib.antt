@@ -1,0 +1,4 @@
+pub mod Notes
+pub mod Standing
+pub mod Laws
+pub mod Inside
