@@ -1,0 +1,12 @@
+pub mod PartLemmas
+pub mod TurnLemmas
+pub mod StoreLemmas
+pub mod HeadLemmas
+pub mod BuildLemmas
+pub mod ForwardLemmas
+pub mod KeepLemmas
+pub mod ExtendLemmas
+pub mod BackLemmas
+pub mod FailLemmas
+pub mod StepLemmas
+pub mod WorkedExamples

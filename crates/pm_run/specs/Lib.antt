@@ -1,0 +1,9 @@
+pub mod State
+pub mod Turns
+pub mod Wants
+pub mod Meaning
+pub mod InStore
+pub mod Failure
+pub mod Steps
+pub mod Laws
+pub mod Examples
