@@ -6,7 +6,7 @@ ghost use Rattle.pm_diseq.specs.Standing.{IsWithin};
 ghost use Rattle.pm_diseq.specs.Inside.Comparing.{Tells, MayNote};
 
 use indexmap::IndexSet;
-use pm_store::{Addr, Cell, Store};
+use pm_store::{Addr, Cell, Store, stores_are_sound};
 use smallvec::SmallVec;
 use std::alloc::{AllocError, Global};
 
@@ -75,8 +75,7 @@ impl Comparison {
         requires within { IsWithin store.now (as_pair left.now right.now) }
         ensures { IfOk result (Tells store.now (as_pair left.now right.now)) }
     {
-        // For the proof: the store is sound.
-        let _cells = store.len();
+        stores_are_sound(store);
         add_places(&mut self.pending, left, right)?;
         'places: while let Some((a, b)) = self.pending.pop() {
             if a == b {

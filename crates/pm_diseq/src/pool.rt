@@ -10,7 +10,7 @@ ghost use Rattle.pm_diseq.specs.Inside.Waiting.{pair_at, watched, IsPlaceOf, IsG
 
 use crate::comparison::{Difference, compare};
 use crate::entries::{Entry, Span, make_room};
-use pm_store::{Addr, Store};
+use pm_store::{Addr, Store, stores_are_sound};
 use std::alloc::{AllocError, Global};
 use std::marker::Model;
 
@@ -67,8 +67,7 @@ impl Pool {
         ensures refused { IfOk result (λ apart. OnFalse apart (self.new ≡ self.old)) }
         ensures err { OnErr result (self.new ≡ self.old) }
     {
-        // For the proof: the store is sound.
-        let _cells = store.len();
+        stores_are_sound(store);
         let mark = self.mark();
         match self.keep(store, left, right) {
             Ok(true) => Ok(true),
@@ -96,8 +95,7 @@ impl Pool {
         ensures refused { IfOk result (λ apart. OnFalse apart (self.new ≡ self.old)) }
         ensures err { OnErr result (self.new ≡ self.old) }
     {
-        // For the proof: the store is sound.
-        let _cells = store.len();
+        stores_are_sound(store);
         let mark = self.mark();
         match self.look_again(store, bound) {
             Ok(true) => Ok(true),

@@ -24,6 +24,15 @@ impl Model for TermId {
     ghost inverse = { λ n. record { 0 = n } };
 }
 
+impl TermId {
+    /// The number of the row: how many terms of its table were added before it.
+    pub fn row(&self) -> usize
+        ensures { result ≡ self.now }
+    {
+        self.0
+    }
+}
+
 // A term whose arguments are rows of the table.
 #[derive(Debug, PartialEq, Eq, Hash, Drop)]
 enum Entry {

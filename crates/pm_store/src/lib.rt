@@ -14,4 +14,4 @@ pub use laws::{
     resolved_terms_solve, trees_are_general, trees_are_of_free_variables, trees_solve,
 };
 pub use resolver::Resolver;
-pub use store::{Addr, Cell, Mark, Store};
+pub use store::{Addr, Cell, Mark, Store, stores_are_sound};

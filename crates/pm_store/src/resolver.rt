@@ -11,7 +11,7 @@ ghost use Rattle.pm_store.specs.declared.resolver.Place.TheVariants.{Visit, Buil
 ghost use Rattle.pm_store.specs.Resolved.{Resolved, nothing_resolved, row_of, with_variables, numbered, IsResolved, IsMore, AddsPartsOf};
 ghost use Rattle.pm_store.specs.Inside.Pending.{visits, cell_of, IsReadyAt, Proceeds, AddsRowsOf, AddsPlacesOf};
 
-use crate::store::{Addr, Cell, Store};
+use crate::store::{Addr, Cell, Store, stores_are_sound};
 use indexmap::IndexMap;
 use pm_logic::{TermId, TermTable};
 use std::alloc::{AllocError, Global};
@@ -88,8 +88,7 @@ impl Resolver {
             into.old into.new) }
         ensures err { OnErr result (self.new ≡ self.old) }
     {
-        // For the proof: the store is sound.
-        let _cells = store.len();
+        stores_are_sound(store);
         let resolved = self.rows.len();
         let numbered = self.free.len();
         let row = self.visit_all(store, a, into);

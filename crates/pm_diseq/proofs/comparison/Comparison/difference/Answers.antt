@@ -69,7 +69,7 @@ pub places-preserved-in-Continue-branch-3 : goal.places-preserved-in-Continue-br
 places-preserved-in-Continue-branch-3 c =
     let same : c.in-App.f ≡ c.in-App-look-2.g = c.if-f-g.false in
     turn_apart _ _ _ _ _ _ c.in-Some.ensures.items c.places.invariant _ _ c.in-App.f c.in-App.xs.now c.in-App-look-2.ys.now
-    _ c.len-cells.ensures.sound c.in_ok-note-in-App-look-2.ensures c.if-branch.true c.in_ok-add_places-in-App-look-2.ensures (record {
+    _ c.stores_are_sound.ensures c.in_ok-note-in-App-look-2.ensures c.if-branch.true c.in_ok-add_places-in-App-look-2.ensures (record {
       left_within = c.in-App.ensures.shown.1;
       right_within = c.in-App-look-2.ensures.shown.1;
       count = c.if-xs-ys.false;

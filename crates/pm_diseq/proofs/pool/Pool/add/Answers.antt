@@ -8,7 +8,7 @@ use Rattle.pm_diseq.proofs.pool.Pool.add.Goals as goal
 pub returns-in-Ok-true-clause-answer : goal.returns-in-Ok-true-clause-answer
 returns-in-Ok-true-clause-answer c = (
   λ _ identical. subst (Watches c.args.store.now (as_pair c.args.left.now c.args.right.now) c.keep.new.self) c.in-Ok-true.field-0-test c.in-Ok-true.ensures.ok
-      c.args.store.now (growth_is_later c.args.store.now).unchanged c.len-cells.ensures.sound (λ v waits free. free) identical,
+      c.args.store.now (growth_is_later c.args.store.now).unchanged c.stores_are_sound.ensures (λ v waits free. free) identical,
   λ _. refl,
 )
 

@@ -5,7 +5,7 @@ use Rattle.pm_diseq.proofs.pool.Pool.settle_after.Goals as goal
 
 pub returns-in-Ok-true-clause-answer : goal.returns-in-Ok-true-clause-answer
 returns-in-Ok-true-clause-answer c = (
-  λ _. pairs_stay_apart _ _ _ _ c.len-cells.ensures.sound c.requires c.look_again.ensures.more (subst (AreAllLookedAt c.args.store.now c.args.self.now c.args.bound.now c.look_again.new.self) c.in-Ok-true.field-0-test c.in-Ok-true.ensures.ok),
+  λ _. pairs_stay_apart _ _ _ _ c.stores_are_sound.ensures c.requires c.look_again.ensures.more (subst (AreAllLookedAt c.args.store.now c.args.self.now c.args.bound.now c.look_again.new.self) c.in-Ok-true.field-0-test c.in-Ok-true.ensures.ok),
   λ _. refl,
 )
 
