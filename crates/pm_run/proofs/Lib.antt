@@ -9,4 +9,12 @@ pub mod ExtendLemmas
 pub mod BackLemmas
 pub mod FailLemmas
 pub mod StepLemmas
+pub mod ReadyLemmas
+pub mod FitLemmas
+pub mod UniteLemmas
+pub mod GroundLemmas
+pub mod InstructionLemmas
+pub mod RunLemmas
+pub mod RunnerLemmas
+pub mod TestLemmas
 pub mod WorkedExamples

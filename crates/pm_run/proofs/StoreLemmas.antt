@@ -72,10 +72,10 @@ module _ (s : Equations) (v f n : ℕ) (sound : IsSound s) (free : IsFree s v) w
   args_sound : IsSound (with_new_variables s n)
   args_sound = new_variables_sound s n sound
 
-  args_below : AreBelow (length (with_new_variables s n).cells) (new_cells s n)
+  pub args_below : AreBelow (length (with_new_variables s n).cells) (new_cells s n)
   args_below = range_below (length s.cells) n (length (with_new_variables s n).cells) (omega (arith, length-new_variables s n))
 
-  can_bind : CanBind (with_cell (with_new_variables s n) (Application f (new_cells s n))) v (length (with_new_variables s n).cells)
+  pub can_bind : CanBind (with_cell (with_new_variables s n) (Application f (new_cells s n))) v (length (with_new_variables s n).cells)
   can_bind =
       let vars : Equations = with_new_variables s n in
       let made : Equations = with_cell vars (Application f (new_cells s n)) in

@@ -1,5 +1,5 @@
 -- The laws of runs.
-use Rattle.std.specs.Prelude.{◌≡◌, ◌↔◌, ℕ, List, [], ◌∷◌, ◌++◌, All, None, Some, length, map}
+use Rattle.std.specs.Prelude.{◌≡◌, ◌↔◌, ℕ, List, [], ◌∷◌, ◌++◌, All, Option, None, Some, length, map}
 use Rattle.pm_logic.specs.Term.{Term}
 use Rattle.pm_logic.specs.Problem.{Literal}
 use Rattle.pm_logic.specs.Filling.{fill}
@@ -13,6 +13,7 @@ use Rattle.pm_run.specs.Wants.{Wants, WantsUnder, filled_child, with_filled}
 use Rattle.pm_run.specs.Meaning.{Runs}
 use Rattle.pm_run.specs.Failure.{RunFails}
 use Rattle.pm_run.specs.Steps.{reduction_code, before_step, IsStep, AsksNothing, HasFilledArgs, IsComplementaryUnder, filled_children, filled_and_closed, no_children, HasNoSolutions}
+use Rattle.pm_run.specs.Runner.{HasGroundCells}
 use Rattle.pm_run.specs.InStore.{AreBelow, HasArgsBelow, IsInStore, Stands, AgreeBelow}
 
 -- the head code of a term pops the term, filled
@@ -180,3 +181,9 @@ ReductionsFail =
     → RunFails bodies (reduction_code k) (before_step vars s branch [])
     → IsInStore (before_step vars s branch [])
     → HasNoSolutions s (IsComplementaryUnder leaf ancestor)
+
+-- the cells of ground terms stay such while the store grows
+abbrev pub GroundCellsLast : Type 0
+GroundCellsLast =
+    (s new : Equations) (terms : List Term) (cells : List (Option ℕ)) → IsLater s new
+    → HasGroundCells terms cells s → HasGroundCells terms cells new

@@ -5,5 +5,8 @@ pub mod Meaning
 pub mod InStore
 pub mod Failure
 pub mod Steps
+pub mod Bodies
+pub mod Runner
 pub mod Laws
 pub mod Examples
+pub mod Inside

@@ -1,5 +1,5 @@
 -- What code wants of trees: there is no store and there are no addresses.
-use Rattle.std.specs.Prelude.{◌≡◌, ℕ, Bool, false, not, List, [], ◌∷◌, ◌++◌, Some, length, map, reverse}
+use Rattle.std.specs.Prelude.{◌≡◌, ℕ, Bool, false, List, [], ◌∷◌, ◌++◌, Some, length, map, reverse}
 use Rattle.pm_logic.specs.Term.{Term, app, as_terms}
 use Rattle.pm_logic.specs.Problem.{Literal}
 use Rattle.pm_logic.specs.Filling.{fill}

@@ -1,5 +1,5 @@
 //! The laws of runs: each is what a function without a body ensures.
-ghost use Rattle.pm_run.specs.Laws.{HeadsPop, BuildingPushes, GoalsAppend, BodiesAppend, StartsAppend, ExtensionsPopAndAppend, RunsCompose, RunsShowWants, RunsStayInStores, WantsAreReached, FailuresExclude, StepsBeginInStores, StartsAreSteps, StartsNeverFail, ExtensionsAreSteps, ExtensionsFail, ReductionsAreSteps, ReductionsFail};
+ghost use Rattle.pm_run.specs.Laws.{HeadsPop, BuildingPushes, GoalsAppend, BodiesAppend, StartsAppend, ExtensionsPopAndAppend, RunsCompose, RunsShowWants, RunsStayInStores, WantsAreReached, FailuresExclude, StepsBeginInStores, StartsAreSteps, StartsNeverFail, ExtensionsAreSteps, ExtensionsFail, ReductionsAreSteps, ReductionsFail, GroundCellsLast};
 
 /// Over trees, the head code of a term wants the term on top of the stack, with the trees of its
 /// variables in their place, and pops it.
@@ -107,4 +107,9 @@ pub fn reductions_are_steps()
 /// of the store.
 pub fn reductions_fail()
     ensures { ReductionsFail }
+{}
+
+/// The cells of ground terms stay such while the store grows.
+pub fn ground_cells_last()
+    ensures { GroundCellsLast }
 {}
