@@ -1,0 +1,17 @@
+pub mod CellTrees
+pub mod Contexts
+pub mod Selected
+pub mod Replaced
+pub mod Leaves
+pub mod Clauses
+pub mod InPlace
+pub mod AtLeaf
+pub mod Extending
+pub mod Reducing
+pub mod Starting
+pub mod Steps
+pub mod TreeLemmas
+pub mod PlaceLemmas
+pub mod UndoLemmas
+pub mod MachineLemmas
+pub mod AnswerLemmas

@@ -1,0 +1,5 @@
+use Rattle.pm_machine.proofs.Selected.{selected_leaves_have_branches}
+use Rattle.pm_machine.proofs.laws.selected_leaves_have_branches.Goals as goal
+
+pub returns : goal.returns
+returns c = selected_leaves_have_branches
