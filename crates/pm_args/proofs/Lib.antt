@@ -1,0 +1,6 @@
+mod Names
+mod Rows
+mod Rules
+mod Walks
+mod Parses
+mod Jobs

@@ -1,0 +1,6 @@
+mod TextLemmas
+mod LineLemmas
+mod SampleLemmas
+mod ValidLemmas
+mod MarkLemmas
+mod SummaryLemmas

@@ -1,0 +1,5 @@
+pub mod Text
+pub mod Lines
+pub mod Sample
+pub mod Summary
+pub mod Inside
