@@ -1,0 +1,11 @@
+pub mod ListLemmas
+pub mod ComplementLemmas
+pub mod HeadLemmas
+pub mod TreeLemmas
+pub mod HoleLemmas
+pub mod StepLemmas
+pub mod LeastLemmas
+pub mod WalkLemmas
+pub mod CodeLemmas
+pub mod ExampleLemmas
+pub mod RowLemmas
