@@ -1,0 +1,6 @@
+//! The tableau's space: so far the laws of its general tableaux. The crate has no code but these.
+#![tactic(auto)]
+
+mod laws;
+
+pub use laws::{general_tableaux_label, regularity_is_general};
