@@ -1,8 +1,8 @@
 -- What the calls of a book know of its tables.
 use Rattle.std.proofs.Common.{◌≡◌, ℕ, zero, suc, ◌+◌, ◌<◌, ◌≤◌, ◌⊎◌, ◌∙◌, Bool, true, false, cond, List, [], ◌∷◌, ◌++◌, length, take, drop, map, refl, sym, ap, subst, inl, inr, arith}
-use Rattle.std.specs.Prelude.{Option, Some, None, All, Contains, slice_get, ◌==◌, ◌&&◌, ◌||◌, ◌↔◌, not, nat_lt, if◌then◌else◌, IsTrue, IsFalse, IsSome, Result, Ok, Err, OnErr, MatchOption}
+use Rattle.std.specs.Prelude.{Option, Some, None, All, Contains, slice_get, ◌==◌, ◌&&◌, ◌||◌, ◌↔◌, not, nat_lt, if◌then◌else◌, IsTrue, IsSome, Result, Ok, Err, OnErr}
 use Rattle.std.specs.List.{find}
-use Rattle.std.proofs.lemmas.List.Elements.{All-contains, Contains-append_right, Contains-append_cases}
+use Rattle.std.proofs.lemmas.List.Elements.{All-nil, All-cons, All-head, All-tail, All-contains, Contains-append_right, Contains-append_cases}
 use Rattle.std.proofs.lemmas.Bool.Decides.{nat_tests}
 use Rattle.pm_choice.specs.declared.Bound.{Bound}
 use Rattle.pm_choice.specs.declared.Bound.TheVariants.{At, End}
@@ -12,17 +12,17 @@ use Rattle.pm_book.specs.declared.row.BookRow.{BookRow}
 use Rattle.pm_book.specs.declared.event.Event.{Event}
 use Rattle.pm_book.specs.declared.tables.Tables.{Tables}
 use Rattle.pm_book.specs.declared.tables.Spot.{Spot}
-use Rattle.pm_book.specs.declared.tables.Survey.{Survey}
-use Rattle.pm_book.specs.Rows.{Row, BookState, Span, span_of, Tile, is_before, is_below, is_within, is_queued, is_running, is_above, count_of}
+use Rattle.pm_book.specs.Rows.{Row, BookState, Span, span_of, Tile, is_before, is_below, is_within, is_queued, is_running, is_above, is_open, count_of}
 use Rattle.pm_book.specs.Steps.{where_true, is_about, is_next_cut, parts_after, may_return, step, IsReplay}
 use Rattle.pm_book.specs.Always.{AlwaysHolds}
 use Rattle.pm_book.specs.Shown.{HasPlaces, lower, upper, row_seen}
-use Rattle.pm_book.specs.Inside.Seen.{seen, AreKept, IsFirstSpot, AreSoundTables, Surveys, IsSpotOf}
+use Rattle.pm_book.specs.Inside.Seen.{seen, AreKept, IsFirstSpot, AreSoundTables, IsSpotOf}
 use Rattle.pm_book.specs.Answers.{IsQueuedAt, Knows, HasStarted, IsBookOver, NoneQueued, IsInside}
 use Rattle.pm_book.proofs.OrderTests.{bool_cases, before_is, below_is, not_before_is, is_not_before, and_is, not_is, same_is}
 use Rattle.pm_book.proofs.Tiles.{tile_round}
 use Rattle.pm_book.proofs.Kept.{count_append, count_cons, where_in}
 use Rattle.pm_book.proofs.Always.{each_replay_holds}
+use Rattle.pm_book.proofs.Counted.{none_counts}
 use Rattle.pm_book.proofs.Places.{seen_split, all_seen, find_at, step_made, no_row, no_parts}
 use Rattle.pm_book.proofs.Moves.{same_self, and_holds, where_holds, spot_places}
 use Rattle.pm_book.proofs.Replays.{replay_more}
@@ -164,10 +164,26 @@ started old mid new spot test event ticket same about first ticket-is step-is =
     subst (λ (b : BookState). HasStarted b event ticket (seen new)) same
     (record { row = row_seen mid.cuts.items spot.row; about = spot_found mid spot test event about first; ticket_is = ticket-is; step_is = step-is })
 
--- a pass that shows that a book isn't over
-pub not_over : (t : Tables) (survey : Survey) (over : Bool) → Surveys t survey → (IsTrue over ↔ ((t.budget < survey.spent) ⊎ IsFalse survey.open)) → over ≡ false → ¬ IsBookOver (seen t)
-not_over t survey over surveys told not (inl more) = absurd (let yes' = told.1 (inl (omega (arith, more, surveys.spent_is))) in cc)
-not_over t survey over surveys told not (inr closed) = absurd (let yes' = told.1 (inr (surveys.open_is.1 closed)) in cc)
+-- whether a book is over, from what is counted
+pub over_is : (t : Tables) → AreKept t → ((t.budget < t.counts.spent) ⊎ (t.counts.remaining ≡ 0)) ↔ IsBookOver (seen t)
+over_is t kept =
+    let none = none_counts (is_open (seen t).best) (seen t).rows in (
+      λ told. elim told [ inl more ↦ inl (subst (λ (n : ℕ). t.budget < n) kept.counted.spent more) | inr closed ↦ inr (none.0 (sym kept.counted.remaining ∙ closed)) ],
+      λ over. elim over [ inl more ↦ inl (subst (λ (n : ℕ). t.budget < n) (sym kept.counted.spent) more) | inr closed ↦ inr (kept.counted.remaining ∙ none.1 closed) ],
+    )
+
+pub not_over : (t : Tables) (over : Bool) → (IsTrue over ↔ IsBookOver (seen t)) → over ≡ false → ¬ IsBookOver (seen t)
+not_over t over told not is_over = absurd (let yes' = told.1 is_over in cc)
+
+-- where no Queued row is counted there is none
+unseen : (cuts : List (List ℕ)) (rows : List BookRow) → All (λ (row : Row). is_queued row.state ≡ false) (map (row_seen cuts) rows) → All (λ (row : BookRow). is_queued row.state ≡ false) rows
+unseen cuts [] none = All-nil (λ (row : BookRow). is_queued row.state ≡ false)
+unseen cuts (x ∷ xs) none =
+    All-cons (λ (row : BookRow). is_queued row.state ≡ false) x xs (All-head (λ (row : Row). is_queued row.state ≡ false) (row_seen cuts x) (map (row_seen cuts) xs) none)
+    (unseen cuts xs (All-tail (λ (row : Row). is_queued row.state ≡ false) (row_seen cuts x) (map (row_seen cuts) xs) none))
+
+pub no_queued : (t : Tables) → AreKept t → t.counts.queued ≡ 0 → All (λ row. is_queued row.state ≡ false) t.rows.items
+no_queued t kept none = unseen t.cuts.items t.rows.items ((none_counts (λ (row : Row). is_queued row.state) (seen t).rows).0 (sym kept.counted.queued ∙ none))
 
 pub none_queued : (t : Tables) → All (λ (row : BookRow). is_queued row.state ≡ false) t.rows.items → NoneQueued (seen t)
 none_queued t none = all_seen t.cuts.items (λ row. is_queued row.state) (λ row. is_queued row.state) (λ r. refl) t.rows.items none
@@ -247,15 +263,6 @@ wanted_is t ticket spot above is above-is =
 -- a span that ends at a list
 abbrev pub span_to : ℕ → List ℕ → List ℕ → Span
 span_to number from list = record { number = number; from = from; to = At list }
-
--- what a pass over the rows tells of the first Queued row
-pub first_queued : (t : Tables) (survey : Survey) (spot : Spot) → Surveys t survey → survey.queued ≡ Some spot → IsFirstSpot (λ row. is_queued row.state) t.rows.items spot
-first_queued t survey spot surveys is =
-    subst (λ (o : Option Spot). MatchOption o (All (λ (row : BookRow). is_queued row.state ≡ false) t.rows.items) (IsFirstSpot (λ row. is_queued row.state) t.rows.items)) is surveys.queued_is
-
-pub no_queued : (t : Tables) (survey : Survey) → Surveys t survey → survey.queued ≡ None → All (λ row. is_queued row.state ≡ false) t.rows.items
-no_queued t survey surveys is =
-    subst (λ (o : Option Spot). MatchOption o (All (λ (row : BookRow). is_queued row.state ≡ false) t.rows.items) (IsFirstSpot (λ row. is_queued row.state) t.rows.items)) is surveys.queued_is
 
 -- tables in which room was made for the start of a spot's row
 pub record IsReady (mid : Tables) (test : BookRow → Bool) (spot : Spot) : Type 0 where

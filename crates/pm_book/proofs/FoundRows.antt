@@ -1,31 +1,33 @@
 -- What a find leaves of the rows: those above the path that were Queued are dropped.
-use Rattle.std.proofs.Common.{◌≡◌, ℕ, ◌+◌, ◌∙◌, Bool, true, false, cond, List, [], ◌∷◌, ◌++◌, length, take, drop, map, get_or, refl, sym, ap, subst, arith, append_assoc, length-append}
+use Rattle.std.proofs.Common.{◌≡◌, ℕ, ◌+◌, ◌∙◌, Bool, true, false, List, [], ◌∷◌, ◌++◌, length, take, drop, map, get_or, refl, sym, ap, subst, inl, inr, arith, append_assoc, length-append}
 use Rattle.std.specs.Prelude.{Option, Some, All, slice_get, ◌&&◌, if◌then◌else◌}
-use Rattle.std.specs.List.{count_by}
 use Rattle.std.proofs.lemmas.List.{map-append, length-take}
 use Rattle.std.proofs.Math.Seq.{take-append-add, drop-append-add, get_or-append_seam}
-use Rattle.std.proofs.lemmas.List.Sums.{sum_by-append, sum_by-cons}
 use Rattle.std.proofs.lemmas.Option.{slice_get_within}
 use Rattle.std.proofs.lemmas.List.{take-append-drop}
-use Rattle.std.proofs.lemmas.List.Elements.{All-head, All-tail, All-append, All-map, All-take, All-drop, All-weaker}
+use Rattle.std.proofs.lemmas.List.Elements.{All-nil, All-cons, All-head, All-tail, All-append, All-map, All-take, All-drop, All-weaker}
 use Rattle.pm_choice.specs.declared.Bound.{Bound}
 use Rattle.pm_choice.specs.declared.Bound.TheVariants.{At, End}
 use Rattle.pm_choice.specs.Order.{Precedes, PrecedesBound}
 use Rattle.pm_choice.proofs.OrderLemmas.{transitive}
 use Rattle.pm_book.specs.declared.row.RowState.{RowState}
-use Rattle.pm_book.specs.declared.row.RowState.TheVariants.{Queued, Running, Done, Dropped}
+use Rattle.pm_book.specs.declared.row.RowState.TheVariants.{Done, Dropped}
 use Rattle.pm_book.specs.declared.row.BookRow.{BookRow}
 use Rattle.pm_book.specs.declared.event.Event.{Event}
 use Rattle.pm_book.specs.declared.tables.Tables.{Tables}
 use Rattle.pm_book.specs.declared.tables.Spot.{Spot}
-use Rattle.pm_book.specs.Rows.{Row, Tile, is_before, is_within, is_queued, is_running}
+use Rattle.pm_book.specs.Rows.{Row, BookState, Tile, is_before, is_within, is_queued, is_above}
 use Rattle.pm_book.specs.Steps.{with_state, drop_above, with_best}
 use Rattle.pm_book.specs.Always.{AlwaysHolds}
 use Rattle.pm_book.specs.Shown.{lower, upper, row_seen, HasPlaces}
+use Rattle.pm_book.specs.declared.counts.Counts.{Counts}
+use Rattle.pm_book.specs.Inside.Counted.{AreCounted, ArePart, forgets}
 use Rattle.pm_book.specs.Inside.Seen.{seen, best_seen, AreKept, HasPut, dropped}
-use Rattle.pm_book.proofs.OrderTests.{within_is, is_not_before, before_is}
+use Rattle.pm_book.proofs.OrderTests.{bool_cases, within_is, is_not_before, before_is, above_more}
 use Rattle.pm_book.proofs.Tiles.{tile_round, ends_before, begins_after, none_empty}
-use Rattle.pm_book.proofs.Places.{split_at, seen_split, rows_more, same_state, runs}
+use Rattle.pm_book.proofs.Places.{split_at, seen_split, rows_more, same_state, lower_more, put_best, put_rows}
+use Rattle.pm_book.proofs.Moves.{spot_places}
+use Rattle.pm_book.proofs.Counted.{forget_counts, tail_part}
 
 dropped_seen : (cuts : List (List ℕ)) (path : List ℕ) (row : BookRow) → is_before path (lower cuts row.from) ≡ true → row_seen cuts (dropped row) ≡ drop_above (Some path) (row_seen cuts row)
 dropped_seen cuts path row above =
@@ -143,20 +145,6 @@ dropped_places : (n : ℕ) (row : BookRow) → HasPlaces n row → HasPlaces n (
 dropped_places n row has =
     elim (is_queued row.state) as (λ b. HasPlaces n (if b then record row { state = Dropped } else row)) [ true ↦ record { from = has.from; to = has.to } | false ↦ has ]
 
-dropped_runs : (number : ℕ) (from to : Option ℕ) (state : RowState) → is_running (dropped (record { number = number; from = from; to = to; state = state })).state ≡ is_running state
-dropped_runs number from to Queued = refl
-dropped_runs number from to (Running worker) = refl
-dropped_runs number from to (Done work found) = refl
-dropped_runs number from to Dropped = refl
-
-count_dropped : (rows : List BookRow) → count_by runs (map dropped rows) ≡ count_by runs rows
-count_dropped [] = refl
-count_dropped (x ∷ xs) =
-    sum_by-cons (λ (r : BookRow). cond (runs r) 1 0) (dropped x) (map dropped xs)
-    ∙ ap (λ (b : Bool). cond b 1 0 + count_by runs (map dropped xs)) (dropped_runs x.number x.from x.to x.state)
-    ∙ ap (λ (n : ℕ). cond (runs x) 1 0 + n) (count_dropped xs)
-    ∙ sym (sum_by-cons (λ (r : BookRow). cond (runs r) 1 0) x xs)
-
 pub found_places : (mid new : Tables) (place at_cut : ℕ) → AreKept mid → HasFound mid new place at_cut → All (HasPlaces (length new.cuts.items)) new.rows.items
 found_places mid new place at_cut kept found =
     let n = length mid.cuts.items in
@@ -167,12 +155,56 @@ found_places mid new place at_cut kept found =
     (All-map P dropped back (All-weaker P (λ (r : BookRow). P (dropped r)) (dropped_places n) back (All-drop P place mid.rows.items kept.places))) in
     subst (λ (l : List (List ℕ)). All (HasPlaces (length l)) new.rows.items) (sym found.cuts_are) (subst (All P) (sym found.rows_are) whole)
 
-pub found_running : (mid new : Tables) (place at_cut : ℕ) → AreKept mid → HasFound mid new place at_cut → mid.running ≡ count_by (λ (row : BookRow). is_running row.state) new.rows.items
-found_running mid new place at_cut kept found =
-    let back = drop place mid.rows.items in
-    let a : count_by runs new.rows.items ≡ count_by runs (take place mid.rows.items) + count_by runs (map dropped back) =
-    ap (count_by runs) found.rows_are ∙ sum_by-append (λ (r : BookRow). cond (runs r) 1 0) (take place mid.rows.items) (map dropped back) in
-    let b = count_dropped back in
-    let e : count_by runs mid.rows.items ≡ count_by runs (take place mid.rows.items) + count_by runs back =
-    ap (count_by runs) (sym (take-append-drop place mid.rows.items)) ∙ sum_by-append (λ (r : BookRow). cond (runs r) 1 0) (take place mid.rows.items) back in
-    omega (arith, a, b, e, kept.running)
+-- what is counted after a find: the rows after its row are above best from then on, and those up to it were
+-- above it neither before nor after
+pub found_counts : (old mid new : Tables) (spot : Spot) (row : BookRow) (work : ℕ) (path : List ℕ) (event : Event) (after : Counts) → AreKept old → slice_get old.rows.items spot.place ≡ Some spot.row → AlwaysHolds (seen old)
+    → is_within (lower old.cuts.items spot.row.from) (upper old.cuts.items spot.row.to) path ≡ true → is_above (seen old).best (lower old.cuts.items spot.row.from) ≡ false → row.from ≡ spot.row.from → row.state ≡ Done work true
+    → HasPut old mid spot.place (row ∷ []) (Some path) event → AreKept mid → AreCounted after (seen mid).best (map (row_seen mid.cuts.items) (drop (spot.place + 1) mid.rows.items)) → seen new ≡ with_best (Some path) (seen mid)
+    → AreCounted (forgets mid.counts after) (seen new).best (seen new).rows
+found_counts old mid new spot row work path event after kept there always within not_above from-is done put kept-mid counted seen-is =
+    let O = old.rows.items in
+    let cuts = old.cuts.items in
+    let best = (seen old).best in
+    let D : Row → Row = drop_above (Some path) in
+    let F : List Row = map (row_seen cuts) (take spot.place O) in
+    let here : Row = row_seen (cuts ++ path ∷ []) row in
+    let B : List Row = map (row_seen cuts) (drop (spot.place + 1) O) in
+    let front : List Row = F ++ (here ∷ []) in
+    let round = tile_round (At []) End F (row_seen cuts spot.row) B (subst (λ (l : List Row). Tile (At []) End l) (seen_split cuts O spot there) always.tiled) in
+    let inside = within_is (lower cuts spot.row.from) path (upper cuts spot.row.to) within in
+    let below = before_path (At []) F (row_seen cuts spot.row) path round.left inside.not_below in
+    let from : here.from ≡ lower cuts spot.row.from = ap (lower (cuts ++ path ∷ [])) from-is ∙ lower_more cuts (path ∷ []) spot.row.from (spot_places old spot kept there).from in
+    let not_new : All (λ (r : Row). is_before path r.from ≡ false) front =
+    All-append (λ (r : Row). is_before path r.from ≡ false) F (here ∷ []) below
+    (All-cons (λ (r : Row). is_before path r.from ≡ false) here [] (ap (is_before path) from ∙ is_not_before path (lower cuts spot.row.from) inside.not_below) (All-nil (λ (r : Row). is_before path r.from ≡ false))) in
+    let ends = ends_before (At []) (At (lower cuts spot.row.from)) F round.left in
+    let full = none_empty (At []) (At (lower cuts spot.row.from)) F round.left in
+    let low : All (λ (r : Row). is_above best r.from ≡ false) F = λ k d less.
+    elim (bool_cases (is_above best (get_or F k d).from)) [
+      | inl yes' ↦ absurd (let up = above_more best (get_or F k d).from (lower cuts spot.row.from) yes' (ends k d less (get_or F k d).from (full k d less)) in cc)
+      | inr out ↦ out
+    ] in
+    let not_old : All (λ (r : Row). is_above best r.from ≡ false) front =
+    All-append (λ (r : Row). is_above best r.from ≡ false) F (here ∷ []) low (All-cons (λ (r : Row). is_above best r.from ≡ false) here [] (ap (is_above best) from ∙ not_above) (All-nil (λ (r : Row). is_above best r.from ≡ false))) in
+    let above : All (λ (r : Row). is_before path r.from ≡ true) B =
+    All-weaker (λ (r : Row). (l : List ℕ) → PrecedesBound l (upper cuts spot.row.to) → Precedes l r.from) (λ (r : Row). is_before path r.from ≡ true)
+    (λ r later. (before_is path r.from).1 (later path inside.below)) B (begins_after (upper cuts spot.row.to) End B round.right) in
+    let best-is = put_best old mid spot.place (row ∷ []) (Some path) event kept put in
+    let rows-are : (seen mid).rows ≡ front ++ B = put_rows old mid spot.place (row ∷ []) (Some path) event kept put ∙ sym (append_assoc F (here ∷ []) B) in
+    let all : AreCounted mid.counts best (front ++ B) = subst (λ (b : Option (List ℕ)). AreCounted mid.counts b (front ++ B)) best-is (subst (λ (l : List Row). AreCounted mid.counts (seen mid).best l) rows-are kept-mid.counted) in
+    let back-is : map (row_seen mid.cuts.items) (drop (spot.place + 1) mid.rows.items) ≡ B =
+    ap (map (row_seen mid.cuts.items)) (put_back old mid spot row (Some path) event there put) ∙ ap (λ (c : List (List ℕ)). map (row_seen c) (drop (spot.place + 1) O)) put.cuts_are
+    ∙ rows_more cuts (path ∷ []) (drop (spot.place + 1) O) (All-drop (HasPlaces (length cuts)) (spot.place + 1) O kept.places) in
+    let later : AreCounted after best B = subst (λ (b : Option (List ℕ)). AreCounted after b B) best-is (subst (λ (l : List Row). AreCounted after (seen mid).best l) back-is counted) in
+    let still : map D front ≡ front = map-append D F (here ∷ []) ∙ ap (λ (l : List Row). l ++ (D here ∷ [])) (unchanged path F below) ∙ ap (λ (r : Row). F ++ (r ∷ [])) (ap (λ (s : RowState). if is_queued s && is_before path here.from then with_state Dropped here else here) done) in
+    let made : (seen new).rows ≡ front ++ map D B = ap (λ (b : BookState). b.rows) seen-is ∙ ap (map D) rows-are ∙ map-append D front B ∙ ap (λ (l : List Row). l ++ map D B) still in
+    subst (λ (l : List Row). AreCounted (forgets mid.counts after) (seen new).best l) (sym made)
+    (subst (λ (b : Option (List ℕ)). AreCounted (forgets mid.counts after) b (front ++ map D B)) (sym (ap (λ (b : BookState). b.best) seen-is)) (forget_counts mid.counts after best path front B all later not_old not_new above))
+
+-- the counts of the rows from a place on are a part of those of all
+pub back_part : (t : Tables) (first : ℕ) (after : Counts) → AreKept t → AreCounted after (seen t).best (map (row_seen t.cuts.items) (drop first t.rows.items)) → ArePart after t.counts
+back_part t first after kept counted =
+    let f : BookRow → Row = row_seen t.cuts.items in
+    let whole : (seen t).rows ≡ map f (take first t.rows.items) ++ map f (drop first t.rows.items) =
+    ap (map f) (sym (take-append-drop first t.rows.items)) ∙ map-append f (take first t.rows.items) (drop first t.rows.items) in
+    tail_part after t.counts (seen t).best (map f (take first t.rows.items)) (map f (drop first t.rows.items)) counted (subst (AreCounted t.counts (seen t).best) whole kept.counted)

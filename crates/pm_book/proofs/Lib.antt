@@ -5,10 +5,12 @@ pub mod Kept
 pub mod Always
 pub mod Fronts
 pub mod Exhaustion
+pub mod Located
+pub mod Counted
 pub mod Places
 pub mod PutRows
 pub mod Moves
-pub mod Surveyed
+pub mod Stays
 pub mod FoundRows
 pub mod Replays
 pub mod BookLemmas

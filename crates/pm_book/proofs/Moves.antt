@@ -1,5 +1,5 @@
 -- What the changes of tables are steps of.
-use Rattle.std.proofs.Common.{◌≡◌, ℕ, zero, suc, ◌+◌, ◌-◌, ◌<◌, ◌≤◌, ◌⊎◌, ◌∙◌, Bool, true, false, List, [], ◌∷◌, ◌++◌, length, map, refl, sym, ap, subst, inl, inr, arith}
+use Rattle.std.proofs.Common.{◌≡◌, ℕ, zero, suc, ◌+◌, ◌-◌, ◌<◌, ◌≤◌, ◌⊎◌, ◌∙◌, Bool, true, false, List, [], ◌∷◌, ◌++◌, length, take, drop, map, refl, sym, ap, subst, inl, inr, arith}
 use Rattle.std.specs.Prelude.{Option, Some, None, All, slice_get, slice_index_or, ◌==◌, ◌&&◌, nat_le, if◌then◌else◌}
 use Rattle.std.proofs.lemmas.Bool.Decides.{nat_tests}
 use Rattle.std.proofs.lemmas.List.{length-map}
@@ -16,7 +16,9 @@ use Rattle.pm_book.specs.Rows.{Row, is_before, is_below, is_within, is_queued, i
 use Rattle.pm_book.specs.Steps.{where_true, with_state, part_below, part_from, drop_above, ended, returned, may_return, is_next_cut, with_best, step}
 use Rattle.pm_book.specs.Shown.{lower, upper, row_seen, HasPlaces}
 use Rattle.pm_book.specs.Inside.Seen.{seen, running_of, HasRoom, AreKept, IsFirstSpot, IsRunningSpot, HasPut, queued_unless, done_unless}
-use Rattle.pm_book.proofs.Places.{lower_more, upper_more, row_more, places_more, put_step, running_least}
+use Rattle.pm_book.specs.Inside.Counted.{AreCounted}
+use Rattle.pm_book.proofs.Counted.{running_least}
+use Rattle.pm_book.proofs.Places.{lower_more, upper_more, row_more, places_more, put_step, seen_split}
 
 pub where_holds : {A : Type 0} (test : Bool) (value : A) → test ≡ true → where_true test value ≡ Some value
 where_holds test value e = ap (λ (b : Bool). if b then Some value else None) e
@@ -36,14 +38,20 @@ all_at P xs place x all there = subst P (get_or_from_slice_get xs place x x ther
 pub spot_places : (t : Tables) (spot : Spot) → AreKept t → slice_get t.rows.items spot.place ≡ Some spot.row → HasPlaces (length t.cuts.items) spot.row
 spot_places t spot kept there = all_at (HasPlaces (length t.cuts.items)) t.rows.items spot.place spot.row kept.places there
 
+-- a spot's row is counted among the Running rows
+pub spot_least : (t : Tables) (spot : Spot) → AreKept t → slice_get t.rows.items spot.place ≡ Some spot.row → running_of spot.row.state ≤ t.counts.running
+spot_least t spot kept there =
+    running_least t.counts (seen t).best (map (row_seen t.cuts.items) (take spot.place t.rows.items)) (row_seen t.cuts.items spot.row) (map (row_seen t.cuts.items) (drop (spot.place + 1) t.rows.items))
+    (subst (λ (l : List Row). AreCounted t.counts (seen t).best l) (seen_split t.cuts.items t.rows.items spot there) kept.counted)
+
 -- there is room for the end of a Running row
 pub end_room : (t : Tables) (spot : Spot) (state : RowState) → AreKept t → slice_get t.rows.items spot.place ≡ Some spot.row → is_running spot.row.state ≡ true → is_running state ≡ false
-    → HasRoom t (t.running + running_of state - running_of spot.row.state + 1)
+    → HasRoom t (t.counts.running + running_of state - running_of spot.row.state + 1)
 end_room t spot state kept there runs stops =
-    let least = running_least t spot kept there in
+    let least = spot_least t spot kept there in
     let was : running_of spot.row.state ≡ 1 = ap (λ (b : Bool). if b then 1 else 0) runs in
     let will : running_of state ≡ 0 = ap (λ (b : Bool). if b then 1 else 0) stops in
-    let total : t.running + running_of state - running_of spot.row.state + 1 ≡ t.running = omega (arith, least, was, will) in
+    let total : t.counts.running + running_of state - running_of spot.row.state + 1 ≡ t.counts.running = omega (arith, least, was, will) in
     subst (HasRoom t) (sym total) kept.room
 
 pub done_stops : (above : Bool) (work : ℕ) (found : Bool) → is_running (done_unless above work found) ≡ false

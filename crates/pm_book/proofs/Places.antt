@@ -1,20 +1,19 @@
 -- Rows by their places: a spot, what stands before it and after it, and what they stand for.
-use Rattle.std.proofs.Common.{◌≡◌, ℕ, zero, suc, ◌+◌, ◌-◌, ◌≤◌, ◌∙◌, Bool, true, false, cond, List, [], ◌∷◌, ◌++◌, length, take, drop, map, refl, sym, ap, subst, arith, add-one, length-append}
+use Rattle.std.proofs.Common.{◌≡◌, ℕ, zero, suc, ◌+◌, ◌≤◌, ◌∙◌, Bool, true, false, cond, List, [], ◌∷◌, ◌++◌, length, take, drop, map, refl, sym, ap, subst, arith, add-one, length-append}
 use Rattle.std.specs.Prelude.{Option, Some, None, All, slice_get, option_map}
-use Rattle.std.specs.List.{find, count_by}
+use Rattle.std.specs.List.{find}
 use Rattle.std.specs.Option.{option_to_list, option_and_then}
 use Rattle.std.proofs.lemmas.List.{map-append, get_or_append_left}
-use Rattle.std.proofs.lemmas.List.Sums.{sum_by-append, sum_by-cons}
 use Rattle.std.proofs.lemmas.List.Elements.{All-nil, All-cons, All-head, All-tail, All-append, All-take, All-drop, All-weaker}
 use Rattle.pm_choice.specs.declared.Bound.TheVariants.{At}
 use Rattle.pm_book.specs.declared.row.BookRow.{BookRow}
 use Rattle.pm_book.specs.declared.event.Event.{Event}
 use Rattle.pm_book.specs.declared.tables.Tables.{Tables}
 use Rattle.pm_book.specs.declared.tables.Spot.{Spot}
-use Rattle.pm_book.specs.Rows.{Row, BookState, is_running}
+use Rattle.pm_book.specs.Rows.{Row, BookState}
 use Rattle.pm_book.specs.Steps.{is_about, parts_after, new_best, with_best, recorded, replace_first, step, step_at}
 use Rattle.pm_book.specs.Shown.{lower, upper, row_seen, IsCutPlace, HasPlaces}
-use Rattle.pm_book.specs.Inside.Seen.{seen, best_seen, running_of, AreKept, IsFirstSpot, HasPut}
+use Rattle.pm_book.specs.Inside.Seen.{seen, best_seen, AreKept, IsFirstSpot, HasPut}
 
 -- a list is what stands before an element, the element, and what stands after it
 split_suc : {X : Type 0} → (xs : List X) (place : ℕ) (x : X) → slice_get xs place ≡ Some x → xs ≡ take place xs ++ (x ∷ drop (suc place) xs)
@@ -149,40 +148,6 @@ put_step old new spot test rows cut event kept first about put made =
     (map (row_seen (cuts ++ option_to_list cut)) rows) (seen_split cuts old.rows.items spot first.there)
     (all_seen cuts test (is_about event) about (take spot.place old.rows.items) first.first) (about spot.row ∙ first.passes) made in
     made' ∙ ap (λ (b : BookState). Some (with_best (new_best (seen old) event cut (row_seen cuts spot.row)) b)) (sym (seen_put old new spot.place rows cut event kept put))
-
--- counts of the Running rows
-count_around : {X : Type 0} → (test : X → Bool) (before : List X) (x : X) (after : List X) → count_by test (before ++ (x ∷ after)) ≡ count_by test before + (cond (test x) 1 0 + count_by test after)
-count_around test before x after =
-    sum_by-append (λ y. cond (test y) 1 0) before (x ∷ after) ∙ ap (λ (n : ℕ). count_by test before + n) (sum_by-cons (λ y. cond (test y) 1 0) x after)
-
-count_none : (rows : List BookRow) → All (λ r. is_running r.state ≡ false) rows → count_by (λ (r : BookRow). is_running r.state) rows ≡ 0
-count_none [] none = refl
-count_none (x ∷ xs) none =
-    sum_by-cons (λ (r : BookRow). cond (is_running r.state) 1 0) x xs
-    ∙ ap (λ (b : Bool). cond b 1 0 + count_by (λ (r : BookRow). is_running r.state) xs) (All-head (λ (r : BookRow). is_running r.state ≡ false) x xs none)
-    ∙ (let rest = count_none xs (All-tail (λ (r : BookRow). is_running r.state ≡ false) x xs none) in omega (arith, rest))
-
-abbrev pub runs : BookRow → Bool
-runs row = is_running row.state
-
-pub running_least : (t : Tables) (spot : Spot) → AreKept t → slice_get t.rows.items spot.place ≡ Some spot.row → running_of spot.row.state ≤ t.running
-running_least t spot kept there =
-    let a : count_by runs t.rows.items ≡ count_by runs (take spot.place t.rows.items) + (cond (runs spot.row) 1 0 + count_by runs (drop (spot.place + 1) t.rows.items)) =
-    ap (count_by runs) (split_at t.rows.items spot.place spot.row there) ∙ count_around runs (take spot.place t.rows.items) spot.row (drop (spot.place + 1) t.rows.items) in
-    omega (arith, a, kept.running)
-
-pub running_after : (old new : Tables) (spot : Spot) (row : BookRow) (rest : List BookRow) (cut : Option (List ℕ)) (event : Event) → AreKept old → slice_get old.rows.items spot.place ≡ Some spot.row
-    → HasPut old new spot.place (row ∷ rest) cut event → All (λ r. is_running r.state ≡ false) rest → count_by (λ (r : BookRow). is_running r.state) new.rows.items ≡ old.running + running_of row.state - running_of spot.row.state
-running_after old new spot row rest cut event kept there put none =
-    let before = take spot.place old.rows.items in
-    let after = drop (spot.place + 1) old.rows.items in
-    let a : count_by runs old.rows.items ≡ count_by runs before + (cond (runs spot.row) 1 0 + count_by runs after) =
-    ap (count_by runs) (split_at old.rows.items spot.place spot.row there) ∙ count_around runs before spot.row after in
-    let b : count_by runs new.rows.items ≡ count_by runs before + (cond (runs row) 1 0 + count_by runs (rest ++ after)) =
-    ap (count_by runs) put.rows_are ∙ count_around runs before row (rest ++ after) in
-    let d : count_by runs (rest ++ after) ≡ count_by runs rest + count_by runs after = sum_by-append (λ (y : BookRow). cond (runs y) 1 0) rest after in
-    let e = count_none rest none in
-    omega (arith, a, b, d, e, kept.running)
 
 pub places_after : (old new : Tables) (place : ℕ) (rows : List BookRow) (cut : Option (List ℕ)) (event : Event) → AreKept old → HasPut old new place rows cut event
     → All (HasPlaces (length old.cuts.items + length (option_to_list cut))) rows → All (HasPlaces (length new.cuts.items)) new.rows.items

@@ -13,10 +13,11 @@ ghost use Rattle.pm_book.specs.Shown.{row_seen, IsCutPlace, HasPlaces, lower, up
 ghost use Rattle.pm_book.specs.Inside.Seen.{seen, AreKept, IsSpotOf};
 ghost use Rattle.pm_book.specs.Answers.{IsBookOver, NoneQueued, HasTaken, IsQueuedAt, HasClaimed, Knows, IsInside, HasSplit, HasEnded, NoneFound};
 
+use super::counts::{is_queued, is_running};
 use super::event::Event;
 use super::order::{is_before, is_below, is_same};
 use super::row::BookRow;
-use super::tables::{Spot, Survey, Tables, is_queued, is_running};
+use super::tables::{Spot, Tables};
 use super::ticket::{Claimed, Ended, SplitReply, Taken, Ticket};
 use pm_choice::{Bound, Choices};
 use std::alloc::{AllocError, Global};
@@ -117,10 +118,11 @@ fn returned_at(at: Option<Choices>, from: Choices) -> Choices
 }
 
 // Whether a book is over.
-fn is_over(survey: &Survey, budget: u64) -> bool
-    ensures { IsTrue result ↔ ((budget < survey.now.spent) ⊎ IsFalse survey.now.open) }
+fn is_over(tables: &Tables) -> bool
+    requires { AreKept tables.now }
+    ensures { IsTrue result ↔ IsBookOver (seen tables.now) }
 {
-    survey.spent > u128::from(budget) || !survey.open
+    tables.counts.spent > u128::from(tables.budget) || tables.counts.remaining == 0
 }
 
 impl Book {
@@ -141,11 +143,10 @@ impl Book {
         ensures err { OnErr result
             ((¬ IsBookOver self.old) × (¬ NoneQueued self.old) × (self.new ≡ self.old)) }
     {
-        let survey = self.tables.survey();
-        if is_over(&survey, self.tables.budget) {
+        if is_over(&self.tables) {
             return Ok(Taken::Over);
         }
-        let Some(spot) = survey.queued else {
+        let Some(spot) = self.tables.first_queued() else {
             return Ok(Taken::Idle);
         };
         self.tables.make_room()?;
@@ -268,14 +269,14 @@ impl Book {
     pub fn queued(&self) -> u64
         ensures { result ≡ count_by (λ row. is_queued row.state) self.now.rows }
     {
-        self.tables.queued() as u64
+        self.tables.counts.queued as u64
     }
 
     /// The sum of the works of the Done rows that aren't above best. Costs one pass over the rows.
     pub fn spent(&self) -> u128
         ensures { result ≡ spent self.now }
     {
-        self.tables.survey().spent
+        self.tables.counts.spent
     }
 
     /// The best path; none where no path was found.

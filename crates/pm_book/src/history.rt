@@ -12,10 +12,11 @@ ghost use Rattle.pm_book.specs.Answers.{FailsBy};
 ghost use Rattle.pm_book.specs.Inside.Applied.{HasApplied};
 
 use super::book::Book;
+use super::counts::{is_queued, is_running};
 use super::event::Event;
 use super::order::is_before;
 use super::row::BookRow;
-use super::tables::{Tables, is_queued, is_running};
+use super::tables::Tables;
 use pm_choice::Choices;
 use std::alloc::{AllocError, Global};
 use thiserror::Error;
@@ -179,11 +180,10 @@ fn apply_took(tables: &mut Tables, worker: u16, row: u64) -> Result<bool, AllocE
     ensures memory { OnErr result (IsSome (step (seen tables.old) (Took worker row) None)) }
     ensures kept { AreKept tables.new }
 {
-    let survey = tables.survey();
-    let Some(spot) = survey.queued else {
+    let Some(spot) = tables.first_queued() else {
         return Ok(false);
     };
-    if !may_take(spot.row, row, survey.spent, tables.budget) {
+    if !may_take(spot.row, row, tables.counts.spent, tables.budget) {
         return Ok(false);
     }
     tables.make_room()?;
@@ -193,7 +193,8 @@ fn apply_took(tables: &mut Tables, worker: u16, row: u64) -> Result<bool, AllocE
 
 // Claims the row of this number, where it is Queued.
 fn apply_claimed(tables: &mut Tables, worker: u16, row: u64) -> Result<bool, AllocError>
-    requires { AreKept tables.old }
+    requires kept { AreKept tables.old }
+    requires always { AlwaysHolds (seen tables.old) }
     ensures applied { IfOk result
         (HasApplied (seen tables.old) (Claimed worker row) None (seen tables.new)) }
     ensures memory { OnErr result (IsSome (step (seen tables.old) (Claimed worker row) None)) }
@@ -212,7 +213,8 @@ fn apply_claimed(tables: &mut Tables, worker: u16, row: u64) -> Result<bool, All
 
 // Closes the row of this number, where it is Running.
 fn apply_closed(tables: &mut Tables, row: u64, work: u64) -> bool
-    requires { AreKept tables.old }
+    requires kept { AreKept tables.old }
+    requires always { AlwaysHolds (seen tables.old) }
     ensures applied { HasApplied (seen tables.old) (Closed row work) None (seen tables.new) result }
     ensures kept { AreKept tables.new }
 {
@@ -228,7 +230,8 @@ fn apply_closed(tables: &mut Tables, row: u64, work: u64) -> bool
 
 // Splits the row of this number at a list, where it may be.
 fn apply_split(tables: &mut Tables, row: u64, cut: &Choices) -> Result<bool, AllocError>
-    requires { AreKept tables.old }
+    requires kept { AreKept tables.old }
+    requires always { AlwaysHolds (seen tables.old) }
     ensures applied { let event = (Split row (length tables.old.cuts.items)) in
         IfOk result (HasApplied (seen tables.old) event (Some cut.now) (seen tables.new)) }
     ensures memory { let event = (Split row (length tables.old.cuts.items)) in
@@ -253,7 +256,8 @@ fn apply_returned(
     cut: &Choices,
     work: u64,
 ) -> Result<bool, AllocError>
-    requires { AreKept tables.old }
+    requires kept { AreKept tables.old }
+    requires always { AlwaysHolds (seen tables.old) }
     ensures applied { let event = (Returned row (length tables.old.cuts.items) work) in
         IfOk result (HasApplied (seen tables.old) event (Some cut.now) (seen tables.new)) }
     ensures memory { let event = (Returned row (length tables.old.cuts.items) work) in

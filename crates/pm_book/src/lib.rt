@@ -14,6 +14,7 @@
 #![tactic(auto)]
 
 mod book;
+mod counts;
 mod event;
 mod history;
 mod laws;

@@ -1,15 +1,17 @@
 //! The tables of a book, and the changes of one row.
 #![tactic(auto)]
 
-ghost use Rattle.std.specs.Prelude.{◌≡◌, ℕ, ◌+◌, ◌-◌, ◌*◌, ◌^◌, ◌<◌, ◌≤◌, ◌↔◌, ◌==◌, ◌||◌, not, IsTrue, Some, None, true, false, [], ◌∷◌, ◌++◌, map, length, take, drop, slice_get, All, MatchOption, MatchBool, IfOk, IfSome, OnOk, OnErr, vec_len, vec_capacity, option_to_list, slice_index_or};
-ghost use Rattle.std.specs.List.{count_by};
+ghost use Rattle.std.specs.Prelude.{◌≡◌, ℕ, ◌+◌, ◌-◌, ◌<◌, ◌≤◌, ◌⊎◌, ◌↔◌, ◌==◌, ◌||◌, not, IsTrue, Some, None, true, false, [], ◌∷◌, ◌++◌, map, length, take, drop, slice_get, All, MatchOption, MatchBool, IfOk, IfSome, OnOk, OnErr, vec_len, vec_capacity, option_to_list, slice_index_or};
+ghost use Rattle.std.specs.List.Sorted.{IsPartitionPoint};
 ghost use Rattle.pm_book.specs.declared.event.Event.TheVariants.{Took, Claimed, Split, Returned, Closed, Found};
 ghost use Rattle.pm_book.specs.Rows.{is_running, is_queued, is_found, is_below, is_above, is_before, is_within, spent, work_of};
 ghost use Rattle.pm_book.specs.Steps.{step, new_book, may_return};
 ghost use Rattle.pm_book.specs.Always.{AlwaysHolds};
 ghost use Rattle.pm_book.specs.Shown.{lower, upper, row_seen, IsCutPlace, HasPlaces};
-ghost use Rattle.pm_book.specs.Inside.Seen.{seen, best_seen, running_of, HasRoom, AreKept, IsFirstSpot, IsRunningSpot, HasPut, dropped, work_unless, open_unless, queued_unless, done_unless, Surveys};
+ghost use Rattle.pm_book.specs.Inside.Counted.{AreCounted, AreOfOne};
+ghost use Rattle.pm_book.specs.Inside.Seen.{seen, best_seen, running_of, HasRoom, AreKept, IsNewRow, IsFirstSpot, IsRunningSpot, HasPut, dropped, queued_unless, done_unless};
 
+use super::counts::{Counts, is_queued};
 use super::event::Event;
 use super::order::{is_before, is_same};
 use super::row::{BookRow, RowState};
@@ -25,8 +27,11 @@ pub struct Tables {
     pub budget: u64,
     pub cuts: Vec<Choices>,
     pub events: Vec<Event>,
-    // The number of Running rows.
-    pub running: usize,
+    // The place of each number's lower end in `cuts`, which never changes.
+    pub lowers: Vec<Option<u64>>,
+    pub counts: Counts,
+    // No row before this place is Queued.
+    pub hint: usize,
 }
 
 /// A row and its place among the rows.
@@ -34,56 +39,6 @@ pub struct Tables {
 pub struct Spot {
     pub place: usize,
     pub row: BookRow,
-}
-
-/// What a pass over the rows tells: the work that is spent, the first Queued row, and whether a row
-/// that isn't above best is Queued or Running.
-#[derive(Clone, Copy)]
-pub struct Survey {
-    pub spent: u128,
-    pub queued: Option<Spot>,
-    pub open: bool,
-}
-
-// 1 of a Running row, 0 of others.
-fn running_of(state: RowState) -> usize
-    ensures { result ≡ running_of state }
-{
-    match state {
-        RowState::Running { .. } => 1,
-        _ => 0,
-    }
-}
-
-/// Whether a row is Queued.
-pub fn is_queued(state: RowState) -> bool
-    ensures { result ≡ is_queued state }
-{
-    matches!(state, RowState::Queued)
-}
-
-/// Whether a row is Running.
-pub fn is_running(state: RowState) -> bool
-    ensures { result ≡ is_running state }
-{
-    matches!(state, RowState::Running { .. })
-}
-
-// The work that counts of a row.
-fn work_unless(above: bool, state: RowState) -> u64
-    ensures { result ≡ work_unless above state }
-{
-    match state {
-        RowState::Done { work, .. } if !above => work,
-        _ => 0,
-    }
-}
-
-// Whether a row is still to be done.
-fn open_unless(above: bool, state: RowState) -> bool
-    ensures { result ≡ open_unless above state }
-{
-    (is_queued(state) || is_running(state)) && !above
 }
 
 // The state of a new row.
@@ -171,20 +126,28 @@ fn drop_rows(rows: &mut Vec<BookRow>, first: usize)
     }
 }
 
-// The first Queued row, where the rows up to this one are known.
-fn first_queued(first: Option<Spot>, place: usize, row: BookRow) -> Option<Spot>
-    ensures some { IfSome first (λ spot. result ≡ Some spot) }
-    ensures none { first ≡ None
-        → MatchOption result (is_queued row.state ≡ false)
-        (λ spot. (is_queued row.state ≡ true) × (spot ≡ record { place = place; row = row })) }
+// Adds the lower end of a row where there is one; there must be room for it.
+fn push_lower(lowers: &mut Vec<Option<u64>>, row: Option<BookRow>)
+    requires room { vec_len lowers.old < vec_capacity lowers.old }
+    ensures items { lowers.new.items
+        ≡ lowers.old.items ++ map (λ row. row.from) (option_to_list row) }
+    ensures length { vec_len lowers.new ≡ vec_len lowers.old + length (option_to_list row) }
+    ensures capacity { vec_capacity lowers.new ≡ vec_capacity lowers.old }
 {
-    if first.is_some() {
-        return first;
+    if let Some(row) = row {
+        lowers.push_reserved(row.from);
     }
-    if is_queued(row.state) {
-        return Some(Spot { place, row });
+}
+
+// A place before which no row is Queued, where a row was put at a place, and maybe one after it.
+fn lowest(hint: usize, place: usize, row: BookRow, rest: Option<BookRow>) -> usize
+    ensures { let kept = ((is_queued row.state ≡ false) × (rest ≡ None) × (result ≡ hint)) in
+        ((result ≤ hint) × (result ≤ place)) ⊎ kept }
+{
+    if is_queued(row.state) || rest.is_some() {
+        return hint.min(place);
     }
-    None
+    hint
 }
 
 impl Tables {
@@ -200,24 +163,30 @@ impl Tables {
             to: None,
             state: RowState::Queued,
         })?;
+        let mut lowers = Vec::new(alloc);
+        lowers.push(None)?;
         Ok(Tables {
             rows,
             best: None,
             budget,
             cuts: Vec::new(alloc),
             events: Vec::new(alloc),
-            running: 0,
+            lowers,
+            counts: Counts::of(false, RowState::Queued),
+            hint: 0,
         })
     }
 
     /// The list at a row's lower end.
     pub fn lower(&self, from: Option<u64>) -> &[u32]
-        requires { IsCutPlace (length self.now.cuts.items) from }
         ensures { result.now ≡ lower self.now.cuts.items from }
     {
-        match from {
+        let Some(place) = from else {
+            return &[];
+        };
+        match self.cuts.get(place as usize) {
+            Some(cut) => cut.as_slice(),
             None => &[],
-            Some(place) => self.cuts[place as usize].as_slice(),
         }
     }
 
@@ -258,39 +227,97 @@ impl Tables {
         }
     }
 
-    /// The first row of this number.
+    // The number of rows whose lower ends precede a list.
+    fn rows_below(&self, list: &[u32]) -> usize
+        requires { AlwaysHolds (seen self.now) }
+        ensures bound { result ≤ length self.now.rows.items }
+        ensures parted { let lower_of = (λ (row : BookRow). lower self.now.cuts.items row.from) in
+            IsPartitionPoint (λ row. is_before (lower_of row) list.now ≡ true)
+            (λ row. is_before (lower_of row) list.now ≡ false) self.now.rows.items result }
+    {
+        self.rows
+            .partition_point(|row| is_before(self.lower(row.from), list))
+    }
+
+    /// The row of this number.
     pub fn find_number(&self, number: u64) -> Option<Spot>
+        requires kept { AreKept self.now }
+        requires always { AlwaysHolds (seen self.now) }
         ensures { MatchOption result
             (All (λ row. (row.number == number) ≡ false) self.now.rows.items)
             (IsFirstSpot (λ row. row.number == number) self.now.rows.items) }
     {
-        for (place, row) in self.rows.iter().enumerate() {
-            if row.number == number {
-                return Some(Spot { place, row: *row });
+        if number >= self.lowers.len() as u64 {
+            return None;
+        }
+        let place = self.rows_below(self.lower(self.lowers[number as usize]));
+        if place == self.rows.len() {
+            return None;
+        }
+        let row = self.rows[place];
+        if row.number != number {
+            return None;
+        }
+        Some(Spot { place, row })
+    }
+
+    /// The first Queued row.
+    pub fn first_queued(&self) -> Option<Spot>
+        requires { AreKept self.now }
+        ensures { MatchOption result
+            (All (λ row. is_queued row.state ≡ false) self.now.rows.items)
+            (IsFirstSpot (λ row. is_queued row.state) self.now.rows.items) }
+    {
+        if self.counts.queued == 0 {
+            return None;
+        }
+        for place in self.hint..self.rows.len() {
+            if is_queued(self.rows[place].state) {
+                return Some(Spot {
+                    place,
+                    row: self.rows[place],
+                });
             }
         }
         None
     }
 
-    /// One pass over the rows.
-    pub fn survey(&self) -> Survey
-        requires kept { AreKept self.now }
-        ensures { Surveys self.now result }
+    // The counts of one row.
+    fn count_row(&self, row: BookRow) -> Counts
+        requires { IsCutPlace (length self.now.cuts.items) self.now.best }
+        ensures counted { AreCounted result (seen self.now).best
+            (row_seen self.now.cuts.items row ∷ []) }
+        ensures few { AreOfOne result }
     {
-        let mut spent = 0u128;
-        let mut queued = None;
-        let mut open = false;
-        for (place, row) in self.rows.iter().enumerate() {
-            let above = self.is_above(self.lower(row.from));
-            spent += u128::from(work_unless(above, row.state));
-            queued = first_queued(queued, place, *row);
-            open |= open_unless(above, row.state);
+        Counts::of(self.is_above(self.lower(row.from)), row.state)
+    }
+
+    // The counts of a row, where there is one.
+    fn count_rest(&self, rest: Option<BookRow>) -> Counts
+        requires { IsCutPlace (length self.now.cuts.items) self.now.best }
+        ensures counted { AreCounted result (seen self.now).best
+            (map (row_seen self.now.cuts.items) (option_to_list rest)) }
+        ensures few { AreOfOne result }
+    {
+        match rest {
+            Some(row) => self.count_row(row),
+            None => Counts::none(),
         }
-        Survey {
-            spent,
-            queued,
-            open,
+    }
+
+    // The counts of the rows from a place on.
+    fn count_from(&self, first: usize) -> Counts
+        requires best { IsCutPlace (length self.now.cuts.items) self.now.best }
+        requires first { first ≤ vec_len self.now.rows }
+        ensures { AreCounted result (seen self.now).best
+            (map (row_seen self.now.cuts.items) (drop first self.now.rows.items)) }
+    {
+        let mut counts = Counts::none();
+        let count = self.rows.len() - first;
+        for k in 0..count {
+            counts = counts.with(self.count_row(self.rows[first + k]));
         }
+        counts
     }
 
     /// Makes room for two more rows, lists and events beside those for the ends of the Running
@@ -300,13 +327,14 @@ impl Tables {
         ensures kept { AreKept self.new }
         ensures rows { self.new.rows.items ≡ self.old.rows.items }
         ensures seen { seen self.new ≡ seen self.old }
-        ensures running { self.new.running ≡ self.old.running }
-        ensures room { OnOk result (HasRoom self.new (self.new.running + 2)) }
+        ensures counts { self.new.counts ≡ self.old.counts }
+        ensures room { OnOk result (HasRoom self.new (self.new.counts.running + 2)) }
     {
-        let more = self.running + 2;
+        let more = self.counts.running + 2;
         self.rows.reserve(more)?;
         self.cuts.reserve(more)?;
         self.events.reserve(more)?;
+        self.lowers.reserve(more)?;
         Ok(())
     }
 
@@ -322,33 +350,30 @@ impl Tables {
     )
         requires kept { AreKept self.old }
         requires there { slice_get self.old.rows.items spot.place ≡ Some spot.row }
+        requires same { (row.number ≡ spot.row.number) × (row.from ≡ spot.row.from) }
         requires room { HasRoom self.old
-            (self.old.running + running_of row.state - running_of spot.row.state + 1) }
+            (self.old.counts.running + running_of row.state - running_of spot.row.state + 1) }
         requires places { All (HasPlaces (length self.old.cuts.items + length (option_to_list cut)))
             (row ∷ option_to_list rest) }
-        requires rest { All (λ r. is_running r.state ≡ false) (option_to_list rest) }
+        requires rest { All (IsNewRow (length self.old.rows.items)) (option_to_list rest) }
         ensures put { HasPut self.old self.new spot.place (row ∷ option_to_list rest) cut event }
         ensures kept { AreKept self.new }
     {
+        let others = self.counts.without(self.count_row(spot.row));
         self.rows[spot.place] = row;
         insert_row(&mut self.rows, spot.place + 1, rest);
         push_cut(&mut self.cuts, cut);
+        push_lower(&mut self.lowers, rest);
         self.events.push_reserved(event);
-        self.running = self.running + running_of(row.state) - running_of(spot.row.state);
-    }
-
-    /// The number of Queued rows.
-    pub fn queued(&self) -> usize
-        ensures { result ≡ count_by (λ row. is_queued row.state) self.now.rows.items }
-    {
-        self.rows.iter().filter(|row| is_queued(row.state)).count()
+        self.counts = others.with(self.count_row(row)).with(self.count_rest(rest));
+        self.hint = lowest(self.hint, spot.place, row, rest);
     }
 
     /// Takes the first Queued row.
     pub fn take(&mut self, spot: Spot, worker: u16)
         requires kept { AreKept self.old }
         requires spot { IsFirstSpot (λ row. is_queued row.state) self.old.rows.items spot }
-        requires room { HasRoom self.old (self.old.running + 2) }
+        requires room { HasRoom self.old (self.old.counts.running + 2) }
         requires budget { spent (seen self.old) ≤ self.old.budget }
         ensures step { step (seen self.old) (Took worker spot.row.number) None
             ≡ Some (seen self.new) }
@@ -363,6 +388,8 @@ impl Tables {
             row: row.number,
         };
         self.put(spot, row, None, None, event);
+        // It was the first Queued one.
+        self.hint = spot.place + 1;
     }
 
     /// Claims a Queued row.
@@ -371,7 +398,7 @@ impl Tables {
         requires spot { IsFirstSpot
             (λ row. row.number == spot.row.number) self.old.rows.items spot }
         requires queued { is_queued spot.row.state ≡ true }
-        requires room { HasRoom self.old (self.old.running + 2) }
+        requires room { HasRoom self.old (self.old.counts.running + 2) }
         ensures step { step (seen self.old) (Claimed worker spot.row.number) None
             ≡ Some (seen self.new) }
         ensures kept { AreKept self.new }
@@ -391,7 +418,7 @@ impl Tables {
     pub fn split(&mut self, spot: Spot, cut: Choices)
         requires kept { AreKept self.old }
         requires spot { IsRunningSpot self.old spot }
-        requires room { HasRoom self.old (self.old.running + 2) }
+        requires room { HasRoom self.old (self.old.counts.running + 2) }
         requires from { is_before (lower self.old.cuts.items spot.row.from) cut ≡ true }
         requires to { is_below cut (upper self.old.cuts.items spot.row.to) ≡ true }
         ensures step { let event = Split spot.row.number (length self.old.cuts.items) in
@@ -510,9 +537,12 @@ impl Tables {
         };
         self.put(spot, row, None, Some(path), event);
         if !above {
-            self.best = Some(place);
             // The rows after it are above the path, and those before it aren't.
-            drop_rows(&mut self.rows, spot.place + 1);
+            let first = spot.place + 1;
+            let after = self.count_from(first);
+            self.counts = self.counts.forget(after);
+            self.best = Some(place);
+            drop_rows(&mut self.rows, first);
         }
         above
     }

@@ -1,6 +1,5 @@
 -- How the tables of a book stand for its rows, and what they keep.
-use Rattle.std.specs.Prelude.{◌≡◌, ℕ, ◌+◌, ◌≤◌, Bool, true, false, ◌&&◌, ◌||◌, ◌==◌, ◌↔◌, not, if◌then◌else◌, IsFalse, MatchOption, List, [], ◌∷◌, ◌++◌, map, length, take, drop, Option, Some, option_map, slice_get, slice_index_or, All, vec_len, vec_capacity}
-use Rattle.std.specs.List.{count_by}
+use Rattle.std.specs.Prelude.{◌≡◌, ℕ, ◌+◌, ◌*◌, ◌^◌, ◌≤◌, Bool, true, false, ◌==◌, if◌then◌else◌, List, [], ◌∷◌, ◌++◌, map, length, take, drop, Option, Some, option_map, slice_get, slice_index_or, All, vec_len, vec_capacity}
 use Rattle.std.specs.Option.{option_to_list}
 use Rattle.pm_book.specs.declared.row.RowState.{RowState}
 use Rattle.pm_book.specs.declared.row.RowState.TheVariants.{Queued, Done, Dropped}
@@ -8,9 +7,9 @@ use Rattle.pm_book.specs.declared.row.BookRow.{BookRow}
 use Rattle.pm_book.specs.declared.event.Event.{Event}
 use Rattle.pm_book.specs.declared.tables.Tables.{Tables}
 use Rattle.pm_book.specs.declared.tables.Spot.{Spot}
-use Rattle.pm_book.specs.declared.tables.Survey.{Survey}
 use Rattle.pm_book.specs.Steps.{IsReplay}
-use Rattle.pm_book.specs.Rows.{BookState, Span, span_of, is_running, is_queued, work_of, spent, is_open}
+use Rattle.pm_book.specs.Rows.{BookState, Span, span_of, is_running, is_queued}
+use Rattle.pm_book.specs.Inside.Counted.{AreCounted}
 use Rattle.pm_book.specs.Shown.{row_seen, IsCutPlace, HasPlaces}
 
 -- the best path, from its place among the cuts
@@ -31,19 +30,34 @@ seen t = record {
 abbrev pub running_of : RowState → ℕ
 running_of state = if is_running state then 1 else 0
 
--- there is room for so many rows, cuts and events more
+-- there is room for so many rows, cuts, events and numbers more
 pub record HasRoom (t : Tables) (more : ℕ) : Type 0 where
   pub rows : vec_len t.rows + more ≤ vec_capacity t.rows
   pub cuts : vec_len t.cuts + more ≤ vec_capacity t.cuts
   pub events : vec_len t.events + more ≤ vec_capacity t.events
+  pub lowers : vec_len t.lowers + more ≤ vec_capacity t.lowers
 
--- What tables keep: the places of rows and of best are among the cuts, the Running rows are
--- counted, and there is room for one end of each.
+-- each number has the lower end of its row
+pub record HasLowers (lowers : List (Option ℕ)) (rows : List BookRow) : Type 0 where
+  pub as_many : length lowers ≡ length rows
+  pub each : All (λ row. slice_get lowers row.number ≡ Some row.from) rows
+
+-- What tables keep: the places of rows and of best are among the cuts, and each number has its
+-- lower end. The rows are counted, so that each event adds less than twice the greatest work, and
+-- none before the hint is Queued. There is room for one end of each Running row.
 pub record AreKept (t : Tables) : Type 0 where
   pub places : All (HasPlaces (length t.cuts.items)) t.rows.items
   pub best : IsCutPlace (length t.cuts.items) t.best
-  pub running : t.running ≡ count_by (λ row. is_running row.state) t.rows.items
-  pub room : HasRoom t t.running
+  pub lowers : HasLowers t.lowers.items t.rows.items
+  pub counted : AreCounted t.counts (seen t).best (seen t).rows
+  pub few : t.counts.spent ≤ length t.events.items * 2 ^ 65
+  pub hint : All (λ row. is_queued row.state ≡ false) (take t.hint t.rows.items)
+  pub room : HasRoom t t.counts.running
+
+-- a row that is put in among so many: it has the next number, and doesn't run
+pub record IsNewRow (count : ℕ) (row : BookRow) : Type 0 where
+  pub number : row.number ≡ count
+  pub rests : is_running row.state ≡ false
 
 -- a spot is the first row that passes a test, and its place
 pub record IsFirstSpot (test : BookRow → Bool) (rows : List BookRow) (spot : Spot) : Type 0 where
@@ -65,13 +79,6 @@ pub record HasPut (old new : Tables) (place : ℕ) (rows : List BookRow) (cut : 
 abbrev pub dropped : BookRow → BookRow
 dropped row = if is_queued row.state then record row { state = Dropped } else row
 
--- the work that counts of a row, and whether it is still to be done, given whether it is above best
-abbrev pub work_unless : Bool → RowState → ℕ
-work_unless above state = if above then 0 else work_of state
-
-abbrev pub open_unless : Bool → RowState → Bool
-open_unless above state = (is_queued state || is_running state) && not above
-
 -- the state of a new row, given whether it is above best
 abbrev pub queued_unless : Bool → RowState
 queued_unless above = if above then Dropped else Queued
@@ -79,15 +86,6 @@ queued_unless above = if above then Dropped else Queued
 -- the state of a row that ends, given whether it is above best
 abbrev pub done_unless : Bool → ℕ → Bool → RowState
 done_unless above work found = if above then Dropped else Done work found
-
--- what a pass over the rows tells
-pub record Surveys (t : Tables) (survey : Survey) : Type 0 where
-  pub spent_is : survey.spent ≡ spent (seen t)
-  pub queued_is :
-      MatchOption survey.queued
-      (All (λ row. is_queued row.state ≡ false) t.rows.items)
-      (IsFirstSpot (λ row. is_queued row.state) t.rows.items)
-  pub open_is : IsFalse survey.open ↔ All (λ row. is_open (seen t).best row ≡ false) (seen t).rows
 
 -- a spot is that of a Running row, the first of its number
 pub record IsRunningSpot (t : Tables) (spot : Spot) : Type 0 where

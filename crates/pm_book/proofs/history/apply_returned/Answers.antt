@@ -12,7 +12,7 @@ pub returns-in_default-clause-applied : goal.returns-in_default-clause-applied
 returns-in_default-clause-applied c = unfound c.args.tables.now (λ row. row.number == c.args.row) (Returned c.args.row (length c.args.tables.now.cuts.items) c.args.work) (Some c.args.cut.now) (λ r. refl) c.in_default.ensures
 
 pub may_return-requires : goal.may_return-requires
-may_return-requires c = spot_places c.args.tables.now c.in-Some.spot c.requires c.in-Some.ensures.there
+may_return-requires c = spot_places c.args.tables.now c.in-Some.spot c.requires.kept c.in-Some.ensures.there
 
 pub returns-then-not-may_return-clause-applied : goal.returns-then-not-may_return-clause-applied
 returns-then-not-may_return-clause-applied c =

@@ -65,3 +65,6 @@ returns-clause-ok c =
       started c.args.self.now mid c.claim.new.self spot (λ row. row.number == c.args.row) (Claimed c.args.worker c.args.row) c.in_ok-ticket.ticket (room.seen ∙ c.self.view_is) (λ r. refl) made.first c.in_ok-ticket.ensures
           (ap (λ (n : ℕ). step (seen mid) (Claimed c.args.worker n) None) (sym number) ∙ c.claim.ensures.step),
     )
+
+pub find_number-requires-clause-always : goal.find_number-requires-clause-always
+find_number-requires-clause-always c = always_of c.self.inside.tables c.self.invariant
