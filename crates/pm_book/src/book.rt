@@ -136,8 +136,9 @@ impl Book {
     }
 
     /// Makes the first Queued row Running. Over where the budget is exceeded, or no row that isn't
-    /// above best is Queued or Running. Idle where it isn't over and no row is Queued. Costs one
-    /// pass over the rows.
+    /// above best is Queued or Running. Idle where it isn't over and no row is Queued. Costs a
+    /// pass over the rows from where it found the last one, or from the first that was Queued since;
+    /// Over and Idle are one step.
     pub fn take(&mut self, worker: u16) -> Result<Taken, AllocError>
         ensures ok { IfOk result (HasTaken self.old worker self.new) }
         ensures err { OnErr result
@@ -155,8 +156,7 @@ impl Book {
         Ok(Taken::Task(ticket))
     }
 
-    /// Makes the row of this number Running; Gone where it isn't Queued. Costs one pass over the
-    /// rows.
+    /// Makes the row of this number Running; Gone where it isn't Queued. Costs a binary search.
     pub fn claim(&mut self, row: u64, worker: u16) -> Result<Claimed, AllocError>
         ensures ok { IfOk result (HasClaimed self.old row worker self.new) }
         ensures err { OnErr result (IsQueuedAt self.old row × (self.new ≡ self.old)) }
@@ -174,7 +174,8 @@ impl Book {
     }
 
     /// Splits the ticket's row at `mid`: the row and the ticket end there, and a new row goes on
-    /// from there, Queued, or Dropped where it is above best. Costs one pass over the rows.
+    /// from there, Queued, or Dropped where it is above best. Costs a binary search and a move of the
+    /// rows after the ticket's.
     pub fn split(&mut self, ticket: &mut Ticket, mid: &[u32]) -> Result<SplitReply, AllocError>
         ensures ok { IfOk result (HasSplit self.old ticket.old mid.now self.new ticket.new) }
         ensures err { OnErr result
@@ -198,8 +199,8 @@ impl Book {
     }
 
     /// Gives a ticket's row back at a list, or at its lower end where `at` is none. What is below
-    /// the list is Done with `work`, and the rest is Queued. Costs one pass over the rows, and
-    /// takes no memory.
+    /// the list is Done with `work`, and the rest is Queued. Costs a binary search, and a move of the
+    /// rows after the ticket's where there is a rest. Takes no memory.
     pub fn give_back(&mut self, ticket: Ticket, at: Option<Choices>, work: u64) -> Ended
         requires within { IsWithin ticket.from ticket.to (unwrap_or at ticket.from) }
         requires work { unwrap_or at ticket.from ≡ ticket.from → work ≡ 0 }
@@ -221,8 +222,7 @@ impl Book {
         Ended::Kept
     }
 
-    /// Closes a ticket's row: it is Done with `work`. Costs one pass over the rows, and takes no
-    /// memory.
+    /// Closes a ticket's row: it is Done with `work`. Costs a binary search, and takes no memory.
     pub fn close(&mut self, ticket: Ticket, work: u64) -> Ended
         ensures { HasEnded self.old ticket (Closed ticket.number work) None self.new result }
     {
@@ -237,7 +237,8 @@ impl Book {
     }
 
     /// A path was found in a ticket's row: the row is Done with `work`, best is the path, and each
-    /// Queued row above it is Dropped. Costs one pass over the rows, and takes no memory.
+    /// Queued row above it is Dropped. Costs a binary search and two passes over the rows after the
+    /// ticket's, and takes no memory.
     pub fn found(&mut self, ticket: Ticket, path: Choices, work: u64) -> Ended
         requires { IsWithin ticket.from ticket.to path }
         ensures { let event = Found ticket.number (length self.old.cuts) work in
@@ -253,8 +254,8 @@ impl Book {
         Ended::Kept
     }
 
-    /// Whether a ticket's row is Running with its interval, and isn't above best. Costs one pass
-    /// over the rows.
+    /// Whether a ticket's row is Running with its interval, and isn't above best. Costs a binary
+    /// search.
     pub fn wanted(&self, ticket: &Ticket) -> bool
         ensures { IsTrue result
             ↔ (Knows self.now ticket.now × (is_above self.now.best ticket.now.from ≡ false)) }
@@ -265,14 +266,14 @@ impl Book {
         }
     }
 
-    /// The number of Queued rows. Costs one pass over the rows.
+    /// The number of Queued rows. Costs one step.
     pub fn queued(&self) -> u64
         ensures { result ≡ count_by (λ row. is_queued row.state) self.now.rows }
     {
         self.tables.counts.queued as u64
     }
 
-    /// The sum of the works of the Done rows that aren't above best. Costs one pass over the rows.
+    /// The sum of the works of the Done rows that aren't above best. Costs one step.
     pub fn spent(&self) -> u128
         ensures { result ≡ spent self.now }
     {

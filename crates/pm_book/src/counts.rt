@@ -104,16 +104,17 @@ impl Counts {
         }
     }
 
-    /// Where some of the rows are dropped that were Queued, and all of them come to be above best.
-    pub fn forget(self, rows: Counts) -> Counts
-        requires { ArePart rows self }
-        ensures { result ≡ forgets self rows }
+    /// Where the rows after a find come to be above best, and those that were Queued are dropped. A
+    /// Running one runs on.
+    pub fn forget(self, after: Counts) -> Counts
+        requires { ArePart after self }
+        ensures { result ≡ forgets self after }
     {
         Counts {
             running: self.running,
-            queued: self.queued - rows.queued,
-            remaining: self.remaining - rows.remaining,
-            spent: self.spent - rows.spent,
+            queued: self.queued - after.queued,
+            remaining: self.remaining - after.remaining,
+            spent: self.spent - after.spent,
         }
     }
 }

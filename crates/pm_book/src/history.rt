@@ -38,7 +38,8 @@ pub enum ReplayFault {
 /// An event that is no step is Illegal before any memory is taken for it: where memory is short,
 /// the event that it was wanted for is a step, and so are those before it.
 ///
-/// Costs one pass over the rows for each event, and a copy of each list that an event names.
+/// Costs as much for each event as the call that makes it, and a copy of each list that an event
+/// names.
 pub fn replay(
     alloc: Global,
     budget: u64,

@@ -4,13 +4,14 @@
 //! to the end. Each call of a book is one event or none, and the book is the replay of its own
 //! events.
 //!
-//! What the calls cost: `take`, `queued` and `spent` make one pass over the rows. `claim`, `split`,
-//! `give_back`, `close`, `found` and `wanted` pass over the rows up to the one that they are about,
-//! and `found` then over those after it. A split, and a return above the lower end, move the rows
-//! after the new one by a place. `take` and `claim` copy the two lists of the row's interval,
-//! `split` copies its list for the book and for the ticket, and the other calls copy no list and
-//! take no memory. `best`, `rows`, `events` and `cuts` are one step. No call reads the history.
-//! `replay` makes one such pass for each event.
+//! What the calls cost: `queued`, `spent`, `best`, `rows`, `events` and `cuts` are one step. `claim`,
+//! `split`, `give_back`, `close`, `found` and `wanted` find their row by a binary search on the
+//! lower ends of the rows. `take` looks for the first Queued row from where it found the last one,
+//! or from the first row that was Queued since. A split, and a return above the lower end, move the
+//! rows after the new one by a place. A `found` that counts makes two passes over the rows after
+//! its own. `take` and `claim` copy the two lists of the row's interval, `split` copies its list
+//! for the book and for the ticket, and the other calls copy no list and take no memory. No call
+//! reads the history. `replay` costs as much for each event as the call that makes it.
 #![tactic(auto)]
 
 mod book;

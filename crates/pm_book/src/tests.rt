@@ -8,6 +8,7 @@ use pm_choice::{Bound, Choices};
 use std::alloc::{AllocError, Global};
 use std::process::Abort;
 use std::test::Fail;
+use std::thread::join;
 
 fn list(rt: &impl Abort, alloc: Global, numbers: &[u32]) -> Choices {
     Choices::from_slice(alloc, numbers).expect(rt, "memory")
@@ -276,6 +277,29 @@ fn tickets_of_another_book(rt: HostRuntime) {
     assert_eq!(rt; book.events().len(), 0);
 }
 
+// A new book, and the ticket of its row.
+fn opened(alloc: Global) -> Option<(Book, Ticket)> {
+    let Ok(mut book) = Book::new(alloc, 100) else {
+        return None;
+    };
+    match book.take(1) {
+        Ok(Taken::Task(ticket)) => Some((book, ticket)),
+        Ok(Taken::Idle) => None,
+        Ok(Taken::Over) => None,
+        Err(_) => None,
+    }
+}
+
+// They come back from the thread that made them.
+#[test]
+fn books_and_tickets_cross_threads(rt: HostRuntime) {
+    let alloc = rt.alloc();
+    let (made, ()) = join(&rt, || opened(alloc), || ());
+    let (mut book, ticket) = made.expect(&rt, "a book");
+    assert_eq!(rt; outcome(book.close(ticket, 5)), "kept");
+    assert_eq!(rt; book.spent(), 5);
+}
+
 // A row of the plain model. Lists of one number `k` stand at the place `k + 1` of a line, the
 // empty list at 0, and the end of all lists at `END`.
 #[derive(Clone, Copy)]
@@ -520,6 +544,16 @@ impl PlainBook {
         }
     }
 
+    fn queued(&self) -> u64 {
+        let mut queued = 0u64;
+        for row in self.rows.iter() {
+            if row.state == RowState::Queued {
+                queued = queued.saturating_add(1);
+            }
+        }
+        queued
+    }
+
     fn spent(&self) -> u128 {
         let mut spent = 0u128;
         for row in self.rows.iter() {
@@ -594,6 +628,7 @@ fn random_run(rt: HostRuntime) -> Result<(), Fail> {
         assert_eq!(rt; place_of(row.to, &plain.cuts, END), same.to);
     }
     assert_eq!(rt; book.spent(), plain.spent());
+    assert_eq!(rt; book.queued(), plain.queued());
     let best = list_at(alloc, plain.best.unwrap_or(0))?;
     assert_eq!(rt; book.best(), Some(best.as_slice()));
     // Row 0 has ended or is there no more than once, and no row has the number of rows.

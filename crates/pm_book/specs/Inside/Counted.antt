@@ -28,14 +28,14 @@ pub record AreCounted (counts : Counts) (best : Option (List ℕ)) (rows : List 
   pub remaining : counts.remaining ≡ count_by (is_open best) rows
   pub spent : counts.spent ≡ sum_by (counted_work best) rows
 
--- the counts of one row at most
+-- counts of one row at most
 pub record AreOfOne (counts : Counts) : Type 0 where
   pub running : counts.running ≤ 1
   pub queued : counts.queued ≤ 1
   pub remaining : counts.remaining ≤ 1
   pub spent : counts.spent < 2 ^ 64
 
--- those of one row more fit
+-- counts to which those of one row more can be added
 pub record AreSmall (counts : Counts) : Type 0 where
   pub running : counts.running + 1 < 2 ^ 64
   pub queued : counts.queued + 1 < 2 ^ 64
@@ -58,11 +58,11 @@ both some others = record {
   spent = some.spent + others.spent;
 }
 
--- the counts where some of the rows are above best from then on, and the Queued ones are dropped
+-- the counts where the rows after a find are above best from then on: the Queued ones are dropped
 abbrev pub forgets : Counts → Counts → Counts
-forgets all some = record {
+forgets all after = record {
   running = all.running;
-  queued = all.queued - some.queued;
-  remaining = all.remaining - some.remaining;
-  spent = all.spent - some.spent;
+  queued = all.queued - after.queued;
+  remaining = all.remaining - after.remaining;
+  spent = all.spent - after.spent;
 }

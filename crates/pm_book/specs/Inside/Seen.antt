@@ -43,8 +43,8 @@ pub record HasLowers (lowers : List (Option ℕ)) (rows : List BookRow) : Type 0
   pub each : All (λ row. slice_get lowers row.number ≡ Some row.from) rows
 
 -- What tables keep: the places of rows and of best are among the cuts, and each number has its
--- lower end. The rows are counted, so that each event adds less than twice the greatest work, and
--- none before the hint is Queued. There is room for one end of each Running row.
+-- lower end. The rows are counted, and no event adds more than two works. No row before the hint
+-- is Queued. There is room for one end of each Running row.
 pub record AreKept (t : Tables) : Type 0 where
   pub places : All (HasPlaces (length t.cuts.items)) t.rows.items
   pub best : IsCutPlace (length t.cuts.items) t.best
