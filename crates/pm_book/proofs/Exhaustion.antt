@@ -1,27 +1,27 @@
 -- A settled book that honest events made tells of all entries.
-use Rattle.std.proofs.Common.{◌≡◌, ℕ, ◌+◌, ◌⊎◌, ◌∙◌, true, false, List, [], ◌∷◌, ◌++◌, length, refl, sym, ap, subst, inl, inr, arith, get_or}
+use Rattle.std.proofs.Common.{◌≡◌, ℕ, ◌⊎◌, ◌∙◌, true, false, List, [], ◌∷◌, ◌++◌, length, refl, sym, ap, subst, inl, inr, get_or}
 use Rattle.std.specs.Prelude.{Option, Some, None, All, if◌then◌else◌}
-use Rattle.std.specs.List.{sum_by}
-use Rattle.std.proofs.lemmas.List.Sums.{sum_by-cons}
-use Rattle.std.proofs.lemmas.List.Elements.{All-nil, All-cons, All-head, All-tail, All-append, All-map, All-contains}
+use Rattle.std.proofs.lemmas.List.{append_assoc}
+use Rattle.std.proofs.lemmas.List.Elements.{All-nil, All-cons, All-head, All-tail, All-append, All-map}
 use Rattle.pm_choice.specs.declared.Bound.{Bound}
 use Rattle.pm_choice.specs.declared.Bound.TheVariants.{At, End}
 use Rattle.pm_choice.specs.Order.{IsWithin}
 use Rattle.pm_choice.specs.Entries.{Entries, Closes, Finds}
-use Rattle.pm_choice.proofs.EntryLemmas.{closes_nothing, closes_join, finds_join, more_closed, more_found}
 use Rattle.pm_book.specs.declared.row.RowState.{RowState}
 use Rattle.pm_book.specs.declared.row.RowState.TheVariants.{Queued, Running, Done, Dropped}
 use Rattle.pm_book.specs.declared.event.Event.{Event}
 use Rattle.pm_book.specs.declared.event.Event.TheVariants.{Returned, Found}
-use Rattle.pm_book.specs.Rows.{Row, BookState, Tile, is_running, is_found, is_above, work_of}
+use Rattle.pm_book.specs.Rows.{Row, BookState, Tile, is_running, is_found, is_above}
 use Rattle.pm_book.specs.Steps.{new_book, with_state, part_below, part_from, drop_above, step, replayed, cut_of}
-use Rattle.pm_book.specs.Always.{HasBest, AlwaysHolds}
-use Rattle.pm_book.specs.Honest.{IsTrueAt, IsHonest, AreHonest, front_from, front_of, front_work, EndsFound, SettledBooksTell}
+use Rattle.pm_book.specs.Always.{AlwaysHolds}
+use Rattle.pm_book.specs.Honest.{IsTrueAt, IsHonest, AreHonest, front_from, front_of, SettledBooksTell}
+use Rattle.pm_book.specs.Fronts.{IsTrueState, IsTrueRow}
 use Rattle.pm_book.proofs.OrderTests.{before_is, above_more}
 use Rattle.pm_book.proofs.Tiles.{tile_round, TilesRound, ends_before, begins_after, none_empty}
 use Rattle.pm_book.proofs.Changes.{Change, IsAllowed, IsBy, stepped}
 use Rattle.pm_book.proofs.Changes.Change.{starts, divides, drops, requeues, gives_back, closes, finds}
 use Rattle.pm_book.proofs.Kept.{changed_rows, rows_after, best_after, all_left, all_right}
+use Rattle.pm_book.proofs.Fronts.{fronts_stop, fronts_tell}
 use Rattle.pm_book.proofs.Always.{among, one, two, moved, always_stepped, always_new, each_replay_holds, none_stays}
 
 -- What a row says of the entries: a Done row has told the truth. Of a found row the path is best, or the
@@ -139,113 +139,36 @@ tells_along entries cuts (event ∷ events) start always tells honest book e =
     by (Some later) is same rest go =
         go later (always_stepped start event (cut_of cuts event) later always is) (tells_stepped entries start event (cut_of cuts event) later always tells honest.0 is) rest same
 
--- best is marked
-found_is_marked : (entries : Entries) (best : Option (List ℕ)) (path from : List ℕ) (to : Bound) (state : RowState) → best ≡ Some path → is_found state ≡ true → IsWithin from to path → Tells entries best from to state → entries.is_marked path
-found_is_marked entries best path from to (Done work true) is found within tells =
-    elim tells.2 [
-      | inl same ↦ subst (λ (l : List ℕ). entries.is_marked l) (let both : Some tells.0 ≡ Some path = sym same ∙ is in cc) tells.1.first.marked
-      | inr above ↦ absurd (within.not_below ((before_is path from).0 (subst (λ (b : Option (List ℕ)). is_above b from ≡ true) is above)))
-    ]
-found_is_marked entries best path from to (Done work false) is found within tells = absurd cc
-found_is_marked entries best path from to Queued is found within tells = absurd cc
-found_is_marked entries best path from to (Running worker) is found within tells = absurd cc
-found_is_marked entries best path from to Dropped is found within tells = absurd cc
+abbrev Unfound : Row → Type 0
+Unfound other = is_found other.state ≡ false
 
-best_is_marked : (entries : Entries) (book : BookState) → AlwaysHolds book → All (RowTells entries book.best) book.rows → (path : List ℕ) → book.best ≡ Some path → entries.is_marked path
-best_is_marked entries book always tells path is =
-    let has : HasBest (Some path) book.rows = subst (λ (b : Option (List ℕ)). HasBest b book.rows) is always.best in
-    found_is_marked entries book.best path has.0.from has.0.to has.0.state is has.2.found has.2.within (All-contains (RowTells entries book.best) book.rows has.0 tells has.1)
-
-abbrev sum_of : List Row → ℕ
-sum_of rows = sum_by (λ row. work_of row.state) rows
-
--- What a front says, where so much work was done before it: it closes up to a bound, or it found best.
-abbrev Says : Entries → Option (List ℕ) → Bound → ℕ → List Row → List Row → Type 0
-Says entries best to done front rows =
-    ((end : Bound) × Closes entries [] end (done + sum_of front) × (front ≡ rows → end ≡ to) × (¬ EndsFound front))
-    ⊎ ((path : List ℕ) × (best ≡ Some path) × Finds entries [] End path (done + sum_of front) × EndsFound front)
-
-ends_later : (row : Row) (work : ℕ) (front : List Row) → row.state ≡ Done work false → EndsFound (row ∷ front) → EndsFound front
-ends_later row work [] is e = absurd (let no' : is_found row.state ≡ false = ap is_found is in cc)
-ends_later row work (other ∷ rows) is e = e
-
-ends_still : (row : Row) (front : List Row) → EndsFound front → EndsFound (row ∷ front)
-ends_still row [] e = absurd e
-ends_still row (other ∷ rows) e = e
-
-says_more : (entries : Entries) (best : Option (List ℕ)) (to : Bound) (done work : ℕ) (row : Row) (front rows : List Row) → row.state ≡ Done work false
-    → Says entries best to (done + work) front rows → Says entries best to done (row ∷ front) (row ∷ rows)
-says_more entries best to done work row front rows is says =
-    let sums : sum_of (row ∷ front) ≡ work + sum_of front = sum_by-cons (λ (r : Row). work_of r.state) row front ∙ ap (λ (s : RowState). work_of s + sum_of front) is in
-    let total : (done + work) + sum_of front ≡ done + sum_of (row ∷ front) = omega (arith, sums) in
-    elim says [
-      | inl closed ↦ inl (
-        closed.0,
-        subst (λ (n : ℕ). Closes entries [] closed.0 n) total closed.1,
-        λ same. closed.2 (let rest : row ∷ front ≡ row ∷ rows = same in cc),
-        λ e. closed.3 (ends_later row work front is e),
-      )
-      | inr found ↦ inr (found.0, found.1, subst (λ (n : ℕ). Finds entries [] End found.0 n) total found.2, ends_still row front found.3)
-    ]
-
-front_says : (entries : Entries) (best : Option (List ℕ)) → ((path : List ℕ) → best ≡ Some path → entries.is_marked path) → (to : Bound) (rows : List Row) (from : Bound) (done : ℕ)
-    → Tile from to rows → All (RowTells entries best) rows → Closes entries [] from done → Says entries best to done (front_of rows) rows
-front_says entries best marked to [] from done tiles tells closed = inl (from, subst (λ (n : ℕ). Closes entries [] from n) (let z : done ≡ done + 0 = omega arith in z) closed, λ e. tiles, λ h. h)
-front_says entries best marked to (row ∷ rows) from done tiles tells closed =
-    by row.state refl (All-head (RowTells entries best) row rows tells)
-    (λ work onward. front_says entries best marked to rows row.to (done + work) tiles.2 (All-tail (RowTells entries best) row rows tells) onward)
+-- the front of the rows after some that weren't found
+front_true : (entries : Entries) (book : BookState) → AlwaysHolds book → (rows before : List Row) → book.rows ≡ before ++ rows → All Unfound before → All (RowTells entries book.best) rows
+    → All (IsTrueRow entries book.best) (front_of rows)
+front_true entries book always [] before is unfound tells = All-nil (IsTrueRow entries book.best)
+front_true entries book always (row ∷ rows) before is unfound tells =
+    by row.state refl (All-head (RowTells entries book.best) row rows tells)
+    (λ here. front_true entries book always rows (before ++ row ∷ []) (is ∙ sym (append_assoc before (row ∷ []) rows)) (All-append Unfound before (row ∷ []) unfound (All-cons Unfound row [] here (All-nil Unfound))) (All-tail (RowTells entries book.best) row rows tells))
   where
-    closed_here : Closes entries [] (At row.from) done
-    closed_here = subst (λ (b : Bound). Closes entries [] b done) tiles.0 closed
+    T : Row → Type 0
+    T = IsTrueRow entries book.best
 
-    stops : Says entries best to done [] (row ∷ rows)
-    stops = inl (from, subst (λ (n : ℕ). Closes entries [] from n) (let z : done ≡ done + 0 = omega arith in z) closed, λ e. absurd cc, λ h. h)
-
-    by : (state : RowState) → row.state ≡ state → Tells entries best row.from row.to state
-        → ((work : ℕ) → Closes entries [] row.to (done + work) → Says entries best to (done + work) (front_of rows) rows)
-        → Says entries best to done (front_from row state (front_of rows)) (row ∷ rows)
-    by Queued is tells' go = stops
-    by (Running worker) is tells' go = stops
-    by Dropped is tells' go = stops
-    by (Done work false) is tells' go =
-        says_more entries best to done work row (front_of rows) rows is (go work (closes_join entries row.from row.to done work tiles.1 closed_here tells'))
-    by (Done work true) is tells' go =
-        let sums : sum_of (row ∷ []) ≡ work + 0 = sum_by-cons (λ (r : Row). work_of r.state) row [] ∙ ap (λ (s : RowState). work_of s + 0) is in
-        let total : done + work ≡ done + sum_of (row ∷ []) = omega (arith, sums) in
-        let found = finds_join entries row.from row.to tells'.0 done work closed_here tells'.1 in
-        let best-is : best ≡ Some tells'.0 = elim tells'.2 [
+    by : (state : RowState) → row.state ≡ state → Tells entries book.best row.from row.to state → (Unfound row → All T (front_of rows)) → All T (front_from row state (front_of rows))
+    by Queued is' tells' go = All-nil T
+    by (Running worker) is' tells' go = All-nil T
+    by Dropped is' tells' go = All-nil T
+    by (Done work false) is' tells' go =
+        All-cons T row (front_of rows) (subst (IsTrueState entries book.best row.from row.to) (sym is') tells') (go (ap is_found is'))
+    by (Done work true) is' tells' go =
+        let best-is : book.best ≡ Some tells'.0 = elim tells'.2 [
           | inl same ↦ same
-          | inr above ↦ absurd (above_is_closed best above (λ path is'. marked path is'))
+          | inr above ↦ absurd (let not_above = fronts_stop book before row rows always is unfound in cc)
         ] in
-        inr (tells'.0, best-is, subst (λ (n : ℕ). Finds entries [] End tells'.0 n) total found, ap is_found is)
-      where
-        above_is_closed : (b : Option (List ℕ)) → is_above b row.from ≡ true → ((path : List ℕ) → b ≡ Some path → entries.is_marked path) → ⊥
-        above_is_closed None above m = absurd cc
-        above_is_closed (Some path) above m = closed_here.none path (m path refl) (record { not_below = λ h. h; below = (before_is path row.from).0 above })
+        let holds : IsTrueState entries book.best row.from row.to (Done work true) = (tells'.0, best-is, tells'.1) in
+        All-cons T row [] (subst (IsTrueState entries book.best row.from row.to) (sym is') holds) (All-nil T)
 
 pub settled_tells : (entries : Entries) → SettledBooksTell entries
 settled_tells entries most budget cuts events book e honest settled =
     let always = each_replay_holds budget cuts events book e in
     let tells = tells_along entries cuts events (new_book budget) (always_new budget) (All-cons (RowTells entries None) _ [] tt (All-nil (RowTells entries None))) honest book e in
-    let says = front_says entries book.best (best_is_marked entries book always tells) End book.rows (At []) 0 always.tiled tells (closes_nothing entries) in
-    let zero : 0 + front_work book ≡ front_work book = omega arith in
-    elim says [
-      | inl closed ↦
-          let all : Closes entries [] closed.0 (front_work book) = subst (λ (n : ℕ). Closes entries [] closed.0 n) zero closed.1 in
-          record {
-            over = λ more. more_closed entries closed.0 most (front_work book) all more;
-            found = λ few ends. absurd (closed.3 ends);
-            closed = λ few ends. elim settled [
-              | inl (inl more) ↦ absurd (omega arith)
-              | inl (inr found) ↦ absurd (ends found)
-              | inr whole ↦ subst (λ (b : Bound). Closes entries [] b (front_work book)) (closed.2 whole) all
-            ];
-          }
-      | inr found ↦
-          let all : Finds entries [] End found.0 (front_work book) = subst (λ (n : ℕ). Finds entries [] End found.0 n) zero found.2 in
-          record {
-            over = λ more. more_found entries found.0 most (front_work book) all more;
-            found = λ few ends. (found.0, found.1, all);
-            closed = λ few ends. absurd (ends found.3);
-          }
-    ]
+    fronts_tell entries most book always (front_true entries book always book.rows [] refl (All-nil Unfound) tells) settled

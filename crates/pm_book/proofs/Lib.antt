@@ -3,6 +3,7 @@ pub mod Tiles
 pub mod Changes
 pub mod Kept
 pub mod Always
+pub mod Fronts
 pub mod Exhaustion
 pub mod Places
 pub mod PutRows

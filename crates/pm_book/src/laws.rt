@@ -3,6 +3,7 @@ ghost use Rattle.std.specs.Prelude.{ℕ, Bool, List};
 ghost use Rattle.pm_choice.specs.Entries.{entries_of};
 ghost use Rattle.pm_book.specs.Always.{EachReplayHolds, EachListIsInOneRow, EachEventCoversItsRow};
 ghost use Rattle.pm_book.specs.Honest.{SettledBooksTell};
+ghost use Rattle.pm_book.specs.Fronts.{FrontsTell, FrontsStop};
 
 /// After every list of events the rows tile from the empty list to the end, their numbers are those
 /// below the number of rows, no Queued row is above best and each Dropped row is, and best lies in
@@ -29,4 +30,17 @@ pub fn each_event_covers_its_row()
 pub fn settled_books_tell()
     ensures { (all : List (List ℕ)) (marked : List ℕ → Bool)
         → SettledBooksTell (entries_of all marked) }
+{}
+
+/// Let some choice lists be counted, some of them marked, let each row of a book's front tell the
+/// truth of them, whoever made its events, and let the book be settled for a number. Then it tells
+/// what `settled_books_tell` says of a book whose events are honest.
+pub fn fronts_tell()
+    ensures { (all : List (List ℕ)) (marked : List ℕ → Bool) → FrontsTell (entries_of all marked) }
+{}
+
+/// A row isn't above best where none of the rows before it was found. So neither a row of the front
+/// nor the row after it is Dropped, unless it comes after the front's found row.
+pub fn fronts_stop()
+    ensures { FrontsStop }
 {}

@@ -26,7 +26,8 @@ pub use book::Book;
 pub use event::Event;
 pub use history::{ReplayFault, replay};
 pub use laws::{
-    each_event_covers_its_row, each_list_is_in_one_row, each_replay_holds, settled_books_tell,
+    each_event_covers_its_row, each_list_is_in_one_row, each_replay_holds, fronts_stop,
+    fronts_tell, settled_books_tell,
 };
 pub use row::{BookRow, RowState};
 pub use ticket::{Claimed, Ended, SplitReply, Taken, Ticket};

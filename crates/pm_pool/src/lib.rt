@@ -11,7 +11,7 @@ use std::alloc::{AllocError, Global};
 
 mod laws;
 
-pub use laws::settled_books_tell_of_level;
+pub use laws::{fronts_tell_of_level, settled_books_tell_of_level};
 
 /// How the search of a level ends.
 #[derive(Debug, Drop)]
