@@ -50,6 +50,7 @@ pub trait Desk {
 }
 
 /// The desk of one worker over a book that is its own.
+#[derive(Drop)]
 pub struct Owner<'a> {
     pub book: &'a mut Book,
     pub worker: u16,

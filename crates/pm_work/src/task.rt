@@ -125,7 +125,12 @@ fn close<S: Space, D: Desk>(desk: &mut D, task: Task<S>, work: u64, pieces: &mut
     ensures honest { All (IsHonestPiece (S.key task.search.space)) pieces.new.items }
 {
     let Task {
-        ticket, from, to, ..
+        ticket,
+        search: _search,
+        from,
+        to,
+        at: _at,
+        done: _done,
     } = task;
     pieces.push_reserved(Piece {
         from,
@@ -157,7 +162,12 @@ fn find<S: Space, D: Desk>(
         return Err(AllocError);
     };
     let Task {
-        ticket, from, to, ..
+        ticket,
+        search: _search,
+        from,
+        to,
+        at: _at,
+        done: _done,
     } = task;
     pieces.push_reserved(Piece {
         from,

@@ -1,5 +1,5 @@
 -- A row that is being searched: what a worker holds of it.
-use Rattle.std.specs.Prelude.{◌≡◌, ℕ, false, List, Option, Some, MatchOption}
+use Rattle.std.specs.Prelude.{◌≡◌, ℕ, ◌≤◌, false, List, Option, Some, MatchOption}
 use Rattle.pm_space.specs.Key.{Key}
 use Rattle.pm_choice.specs.declared.Bound.{Bound}
 use Rattle.pm_choice.specs.declared.Bound.TheVariants.{At}
@@ -8,6 +8,8 @@ use Rattle.pm_choice.specs.Entries.{Closes}
 use Rattle.pm_search.specs.Attempts.{attempts_of}
 use Rattle.pm_search.specs.Standing.{Standing, Searches}
 use Rattle.pm_book.specs.Rows.{Span}
+use Rattle.pm_work.specs.declared.worker.Next.{Next}
+use Rattle.pm_work.specs.declared.worker.Next.TheVariants.{GoOn}
 
 -- a place of an interval below which so many attempts were made, and no list is complete
 pub record IsDoneTo (key : Key) (from : List ℕ) (to : Bound) (done : ℕ) (at : List ℕ)
@@ -34,3 +36,8 @@ pub record IsPaused {S : Type 0} (worked : ℕ) (search : Standing S) (at : Opti
   pub worked_is : search.worked ≡ worked
   pub done_is : done ≡ worked
   pub next_is : at ≡ search.next
+
+-- a worker that goes on has made no more attempts in its row than the budget
+abbrev pub IsWithinBudget : ℕ → ℕ → Next → Type 0
+IsWithinBudget budget worked GoOn = worked ≤ budget
+IsWithinBudget budget worked next = Unit {0}

@@ -1,0 +1,24 @@
+-- Honest pieces.
+use Rattle.std.proofs.Common.{◌≡◌, ℕ, List}
+use Rattle.std.specs.Prelude.{Option, Some, None, All, MatchOption}
+use Rattle.std.proofs.lemmas.List.Elements.{All-weaker}
+use Rattle.pm_space.specs.Key.{Key, Agree}
+use Rattle.pm_choice.specs.declared.Bound.{Bound}
+use Rattle.pm_choice.specs.Entries.{Closes, Finds}
+use Rattle.pm_choice.proofs.EntryLemmas.{finds_same}
+use Rattle.pm_search.specs.Attempts.{attempts_of}
+use Rattle.pm_search.proofs.AgreeLemmas.{same_attempts, closes_agrees}
+use Rattle.pm_work.specs.declared.piece.Piece.{Piece}
+use Rattle.pm_work.specs.Pieces.{IsHonestPiece}
+
+-- a piece that is honest for a key is so for each that agrees with it
+pub honest_agrees : (key other : Key) → Agree other key → (piece : Piece) → IsHonestPiece other piece → IsHonestPiece key piece
+honest_agrees key other agree piece honest = by piece.path honest
+  where
+    by : (path : Option (List ℕ)) → MatchOption path (Closes (attempts_of other) piece.from piece.to piece.work) (λ list. Finds (attempts_of other) piece.from piece.to list piece.work)
+        → MatchOption path (Closes (attempts_of key) piece.from piece.to piece.work) (λ list. Finds (attempts_of key) piece.from piece.to list piece.work)
+    by None closes = closes_agrees key other agree piece.from piece.to piece.work closes
+    by (Some path) finds = finds_same (attempts_of other) (attempts_of key) (same_attempts key other agree) piece.from piece.to path piece.work finds
+
+pub all_agree : (key other : Key) → Agree other key → (pieces : List Piece) → All (IsHonestPiece other) pieces → All (IsHonestPiece key) pieces
+all_agree key other agree = All-weaker (IsHonestPiece other) (IsHonestPiece key) (honest_agrees key other agree)

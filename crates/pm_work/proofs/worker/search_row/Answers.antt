@@ -1,0 +1,14 @@
+use Rattle.std.proofs.Common.{rules, ◌≡◌, ◌+◌, ◌<◌, ◌≤◌, ◌^◌, All, IfOk, OnErr, vec_len, vec_capacity, ℕ, ◌-◌, ◌*◌, length, ◌/◌, ◌%◌, Bool, true, false, nat_eq, nat_lt, List, [], ◌∷◌, ◌++◌, slice_index_or, slice_set, bit_and, bit_or, Fits, w8, w32, w64, Bor, MutBor}
+use Rattle.pm_space.specs.Key.{Agree}
+use Rattle.pm_book.specs.Answers.{IsQueuedAt}
+use Rattle.pm_work.specs.Pieces.{IsHonestPiece}
+use Rattle.pm_work.specs.Inside.Tasks.{IsHeld, IsSearching, IsWithinBudget}
+use Rattle.pm_work.proofs.worker.search_row.Goals as goal
+
+-- src/worker.rt:213:13
+pub search_task-requires-clause-honest : goal.search_task-requires-clause-honest
+search_task-requires-clause-honest g c = ?
+
+-- src/worker.rt:185:1
+pub returns-in-Ok : goal.returns-in-Ok
+returns-in-Ok g c = ?

@@ -1,0 +1,2 @@
+//! Tests of a worker over a book of its own.
+use super::*;
