@@ -1,12 +1,13 @@
-use Rattle.std.proofs.Common.{rules, ◌≡◌, ◌↔◌, ◌+◌, ◌<◌, ◌≤◌, ◌^◌, IsTrue, true, false, None, Some, [], ◌∷◌, ◌++◌, All, IfOk, IfSome, OnErr, MatchBool, vec_len, vec_capacity, ℕ, ◌-◌, ◌*◌, length, ◌/◌, ◌%◌, Bool, nat_eq, nat_lt, List, slice_index_or, slice_set, bit_and, bit_or, Fits, w8, w32, w64, Bor, MutBor}
-use Rattle.pm_space.specs.Key.{Agree}
-use Rattle.pm_choice.specs.Order.{PrecedesBound, IsWithin}
-use Rattle.pm_choice.specs.Entries.{Closes, Finds}
-use Rattle.pm_search.specs.Attempts.{attempts_of}
+use Rattle.std.proofs.Common.{List, sym, subst}
+use Rattle.std.specs.Prelude.{All}
+use Rattle.std.proofs.lemmas.List.Elements.{All-push}
+use Rattle.pm_work.specs.declared.piece.Piece.{Piece}
 use Rattle.pm_work.specs.Pieces.{IsHonestPiece}
-use Rattle.pm_work.specs.Inside.Tasks.{IsHeld, IsSearching, IsPaused}
 use Rattle.pm_work.proofs.task.find.Goals as goal
 
--- src/task.rt:146:1
 pub returns : goal.returns
-returns g c = ?
+returns g c =
+    let key = g.S.Space.key c.args.task.search.space in
+    record {
+      honest = subst (λ (l : List Piece). All (IsHonestPiece key) l) (sym c.push_reserved.ensures.items) (All-push (IsHonestPiece key) c.args.pieces.now.items _ c.requires.honest c.requires.finds);
+    }
