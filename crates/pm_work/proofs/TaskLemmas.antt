@@ -1,13 +1,13 @@
 -- What a worker holds of a row, while its search goes on.
-use Rattle.std.proofs.Common.{◌≡◌, ℕ, ◌<◌, ◌≤◌, ◌∙◌, List, [], ◌∷◌, ◌++◌, sym, ap, subst, arith}
-use Rattle.std.specs.Prelude.{Option, Some, None, All, MatchOption}
+use Rattle.std.proofs.Common.{◌≡◌, ℕ, ◌<◌, ◌≤◌, ◌∙◌, List, [], ◌∷◌, ◌++◌, inl, inr, sym, ap, subst, arith}
+use Rattle.std.specs.Prelude.{Option, Some, None, All, MatchOption, MatchBool, IsSomeAnd, true}
 use Rattle.std.proofs.lemmas.List.Elements.{All-push}
 use Rattle.pm_space.specs.Key.{Key, Agree}
 use Rattle.pm_choice.specs.declared.Bound.{Bound}
 use Rattle.pm_choice.specs.declared.Bound.TheVariants.{At}
 use Rattle.pm_choice.specs.Order.{Precedes, PrecedesBound, IsWithin}
 use Rattle.pm_choice.specs.Entries.{Closes, Finds}
-use Rattle.pm_choice.proofs.OrderLemmas.{irreflexive}
+use Rattle.pm_choice.proofs.OrderLemmas.{irreflexive, transitive, not_below}
 use Rattle.pm_choice.proofs.EntryLemmas.{closes_none}
 use Rattle.pm_search.specs.declared.Turn.{Turn}
 use Rattle.pm_search.specs.declared.Turn.TheVariants.{Closed, Found, Paused}
@@ -75,3 +75,26 @@ module _ {S : Type 0} (key old : Key) (agree : Agree key old) (ticket : Span) (f
   held_here at work turn-is =
       let paused = (subst (IsTurn key ticket.from ticket.to most) turn-is turn_here).0 in
       record { interval = held.interval; from_is = held.from_is; to_is = held.to_is; done_to = record { within = paused.within; closes = paused.below } }
+
+-- what is held of a row that ends at a list after the last pause
+module _ (key : Key) (ticket shorter : Span) (from : List ℕ) (to : Bound) (place : Option (List ℕ)) (done : ℕ) (held : IsHeld key ticket from to place done) (mid : List ℕ)
+    (shorter-is : shorter ≡ record ticket { to = At mid }) where
+  after_pause : (at : List ℕ) → place ≡ Some at → Precedes at mid → (end : List ℕ) → end ≡ mid → IsHeld key shorter from (At end) place done
+  after_pause at place-is before end end-is =
+      let was = held_at key ticket from to place done held at place-is in
+      let interval : Precedes ticket.from mid = elim (not_below at ticket.from was.within.not_below) [
+        | inl same ↦ subst (λ (l : List ℕ). Precedes l mid) same before
+        | inr after ↦ transitive ticket.from at mid after before
+      ] in
+      let short : IsHeld key (record ticket { to = At mid }) from (At end) place done = record {
+        interval = interval;
+        from_is = held.from_is;
+        to_is = ap At end-is;
+        done_to = subst (λ (o : Option (List ℕ)). MatchOption o (Unit {0}) (IsDoneTo key ticket.from (At mid) done)) (sym place-is)
+            (record { within = record { not_below = was.within.not_below; below = before }; closes = was.closes });
+      } in
+      subst (λ (t : Span). IsHeld key t from (At end) place done) (sym shorter-is) short
+
+  pub shortened : (next : Option (List ℕ)) → place ≡ next → IsSomeAnd next (λ at. Precedes at mid) → (end : List ℕ) → end ≡ mid → IsHeld key shorter from (At end) place done
+  shortened (Some at) place-is before end end-is = after_pause at place-is before end end-is
+  shortened None place-is before end end-is = absurd before

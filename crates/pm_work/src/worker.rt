@@ -70,6 +70,7 @@ fn after_slice<S: Space, D: Desk>(desk: &mut D, task: &mut Task<S>, budget: u64)
         task.new.ticket task.new.from task.new.to task.new.at task.new.done }
     ensures searching { IsSearching task.new.ticket task.new.search }
     ensures budget { IsWithinBudget budget task.new.search.worked result }
+    ensures worked { task.new.search.worked ≡ task.old.search.worked }
     ensures space { task.new.search.space ≡ task.old.search.space }
 {
     let look = desk.look(&task.ticket);
@@ -235,9 +236,10 @@ fn search_task<S: Space, D: Desk>(
     requires honest { All (IsHonestPiece (S.key task.search.space)) pieces.old.items }
     ensures { All (IsHonestPiece (S.key task.search.space)) pieces.new.items }
 {
-    match search_on(desk, task, fuel, pieces)? {
-        None => Ok(()),
-        Some(rest) => {
+    match search_on(desk, task, fuel, pieces) {
+        Err(error) => Err(error),
+        Ok(None) => Ok(()),
+        Ok(Some(rest)) => {
             if leave(desk, rest, pieces) {
                 Ok(())
             } else {

@@ -1,14 +1,20 @@
-use Rattle.std.proofs.Common.{rules, ◌≡◌, ◌+◌, ◌<◌, ◌≤◌, ◌^◌, All, IfOk, OnErr, vec_len, vec_capacity, ℕ, ◌-◌, ◌*◌, length, ◌/◌, ◌%◌, Bool, true, false, nat_eq, nat_lt, List, [], ◌∷◌, ◌++◌, slice_index_or, slice_set, bit_and, bit_or, Fits, w8, w32, w64, Bor, MutBor}
-use Rattle.pm_space.specs.Key.{Agree}
-use Rattle.pm_book.specs.Answers.{IsQueuedAt}
+use Rattle.std.proofs.Common.{◌≡◌, List, sym, subst}
+use Rattle.std.specs.Prelude.{All}
+use Rattle.pm_search.proofs.AgreeLemmas.{agree_sym}
+use Rattle.pm_work.specs.declared.piece.Piece.{Piece}
 use Rattle.pm_work.specs.Pieces.{IsHonestPiece}
-use Rattle.pm_work.specs.Inside.Tasks.{IsHeld, IsSearching, IsWithinBudget}
+use Rattle.pm_work.proofs.PieceLemmas.{all_agree}
 use Rattle.pm_work.proofs.worker.search_row.Goals as goal
 
--- src/worker.rt:213:13
 pub search_task-requires-clause-honest : goal.search_task-requires-clause-honest
-search_task-requires-clause-honest g c = ?
+search_task-requires-clause-honest g c =
+    let key = g.M.Maker.key_at c.args.maker.now c.args.level in
+    let new = g.M.Made.Space.key c.in-Ok.task.search.space in
+    let kept : All (IsHonestPiece key) c.reserve.new.self.items = subst (λ (l : List Piece). All (IsHonestPiece key) l) (sym c.reserve.ensures.items) c.requires.honest in
+    all_agree new key (agree_sym new key c.in-Ok.ensures.key) c.reserve.new.self.items kept
 
--- src/worker.rt:185:1
 pub returns-in-Ok : goal.returns-in-Ok
-returns-in-Ok g c = ?
+returns-in-Ok g c =
+    let key = g.M.Maker.key_at c.args.maker.now c.args.level in
+    let new = g.M.Made.Space.key c.in-Ok.task.search.space in
+    all_agree key new c.in-Ok.ensures.key c.search_task.new.pieces.items c.search_task.ensures

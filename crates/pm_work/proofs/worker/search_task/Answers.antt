@@ -1,18 +1,27 @@
-use Rattle.std.proofs.Common.{rules, ◌≡◌, ◌+◌, ◌<◌, ◌≤◌, ◌^◌, All, IfOk, OnErr, vec_len, vec_capacity, ℕ, ◌-◌, ◌*◌, length, ◌/◌, ◌%◌, Bool, true, false, nat_eq, nat_lt, List, [], ◌∷◌, ◌++◌, slice_index_or, slice_set, bit_and, bit_or, Fits, w8, w32, w64, Bor, MutBor}
+use Rattle.std.proofs.lemmas.Option.{MatchOption-at_some}
 use Rattle.pm_space.specs.Key.{Agree}
-use Rattle.pm_book.specs.Answers.{IsQueuedAt}
-use Rattle.pm_work.specs.Pieces.{IsHonestPiece}
-use Rattle.pm_work.specs.Inside.Tasks.{IsHeld, IsSearching, IsWithinBudget}
+use Rattle.pm_search.proofs.AgreeLemmas.{agree_sym}
+use Rattle.pm_work.specs.declared.task.Task.{Task}
+use Rattle.pm_work.proofs.PieceLemmas.{all_agree}
 use Rattle.pm_work.proofs.worker.search_task.Goals as goal
 
--- src/worker.rt:241:16
 pub leave-requires-clause-honest : goal.leave-requires-clause-honest
-leave-requires-clause-honest g c = ?
+leave-requires-clause-honest g c =
+    let old = g.S.Space.key c.args.task.search.space in
+    let new = g.S.Space.key c.in-Ok-Some.rest.search.space in
+    let agree : Agree new old = MatchOption-at_some _ (λ (more : Task g.row.S.Denot). Agree (g.S.Space.key more.search.space) old) c.in-Ok-Some.rest c.in-Ok-Some.field-0-is c.in-Ok-Some.ensures.key in
+    all_agree new old (agree_sym new old agree) c.search_on.new.pieces.items c.in-Ok-Some.ensures.honest
 
--- src/worker.rt:223:1
 pub returns-then-leave : goal.returns-then-leave
-returns-then-leave g c = ?
+returns-then-leave g c =
+    let old = g.S.Space.key c.args.task.search.space in
+    let new = g.S.Space.key c.in-Ok-Some.rest.search.space in
+    let agree : Agree new old = MatchOption-at_some _ (λ (more : Task g.row.S.Denot). Agree (g.S.Space.key more.search.space) old) c.in-Ok-Some.rest c.in-Ok-Some.field-0-is c.in-Ok-Some.ensures.key in
+    all_agree old new agree c.leave.new.pieces.items c.leave.ensures.honest
 
--- src/worker.rt:223:1
 pub returns-else-leave : goal.returns-else-leave
-returns-else-leave g c = ?
+returns-else-leave g c =
+    let old = g.S.Space.key c.args.task.search.space in
+    let new = g.S.Space.key c.in-Ok-Some.rest.search.space in
+    let agree : Agree new old = MatchOption-at_some _ (λ (more : Task g.row.S.Denot). Agree (g.S.Space.key more.search.space) old) c.in-Ok-Some.rest c.in-Ok-Some.field-0-is c.in-Ok-Some.ensures.key in
+    all_agree old new agree c.leave.new.pieces.items c.leave.ensures.honest
