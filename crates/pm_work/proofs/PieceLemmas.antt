@@ -1,7 +1,7 @@
 -- Honest pieces.
-use Rattle.std.proofs.Common.{◌≡◌, ℕ, List}
+use Rattle.std.proofs.Common.{◌≡◌, ℕ, List, [], ◌∷◌, ◌++◌, sym, subst}
 use Rattle.std.specs.Prelude.{Option, Some, None, All, MatchOption}
-use Rattle.std.proofs.lemmas.List.Elements.{All-weaker}
+use Rattle.std.proofs.lemmas.List.Elements.{All-weaker, All-push}
 use Rattle.pm_space.specs.Key.{Key, Agree}
 use Rattle.pm_choice.specs.declared.Bound.{Bound}
 use Rattle.pm_choice.specs.Entries.{Closes, Finds}
@@ -22,3 +22,7 @@ honest_agrees key other agree piece honest = by piece.path honest
 
 pub all_agree : (key other : Key) → Agree other key → (pieces : List Piece) → All (IsHonestPiece other) pieces → All (IsHonestPiece key) pieces
 all_agree key other agree = All-weaker (IsHonestPiece other) (IsHonestPiece key) (honest_agrees key other agree)
+
+-- one more piece
+pub with_piece : (key : Key) (pieces more : List Piece) (piece : Piece) → more ≡ pieces ++ piece ∷ [] → All (IsHonestPiece key) pieces → IsHonestPiece key piece → All (IsHonestPiece key) more
+with_piece key pieces more piece is all honest = subst (All (IsHonestPiece key)) (sym is) (All-push (IsHonestPiece key) pieces piece all honest)

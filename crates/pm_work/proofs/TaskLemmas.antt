@@ -1,7 +1,6 @@
 -- What a worker holds of a row, while its search goes on.
 use Rattle.std.proofs.Common.{◌≡◌, ℕ, ◌<◌, ◌≤◌, ◌∙◌, List, [], ◌∷◌, ◌++◌, inl, inr, sym, ap, subst, arith}
 use Rattle.std.specs.Prelude.{Option, Some, None, All, MatchOption, MatchBool, IsSomeAnd, true}
-use Rattle.std.proofs.lemmas.List.Elements.{All-push}
 use Rattle.pm_space.specs.Key.{Key, Agree}
 use Rattle.pm_choice.specs.declared.Bound.{Bound}
 use Rattle.pm_choice.specs.declared.Bound.TheVariants.{At}
@@ -18,6 +17,7 @@ use Rattle.pm_search.proofs.AgreeLemmas.{agree_sym, closes_agrees, turn_agrees}
 use Rattle.pm_book.specs.Rows.{Span}
 use Rattle.pm_work.specs.declared.piece.Piece.{Piece}
 use Rattle.pm_work.specs.Pieces.{IsHonestPiece}
+use Rattle.pm_work.proofs.PieceLemmas.{with_piece}
 use Rattle.pm_work.specs.Inside.Tasks.{IsDoneTo, IsHeld, IsSearching}
 
 -- a ticket may come back at its lower end
@@ -38,7 +38,7 @@ module _ (key : Key) (ticket : Span) (from : List ℕ) (to : Bound) (place : Opt
   returned_honest end pieces more piece end-is piece-is more-is honest =
       let closes : Closes (attempts_of key) from (At end) done =
       subst (λ (l : List ℕ). Closes (attempts_of key) from (At l) done) (sym end-is) (subst (λ (l : List ℕ). Closes (attempts_of key) l (At at) done) (sym held.from_is) held_at.closes) in
-      subst (All (IsHonestPiece key)) (sym more-is) (All-push (IsHonestPiece key) pieces piece honest (subst (IsHonestPiece key) (sym piece-is) closes))
+      with_piece key pieces more piece more-is honest (subst (IsHonestPiece key) (sym piece-is) closes)
 
 -- what is held for a key is held for each that agrees with it
 pub held_agrees : (key other : Key) → Agree other key → (ticket : Span) (from : List ℕ) (to : Bound) (place : Option (List ℕ)) (done : ℕ) → IsHeld other ticket from to place done → IsHeld key ticket from to place done

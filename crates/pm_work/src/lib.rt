@@ -12,7 +12,7 @@ mod piece;
 mod task;
 mod worker;
 
-pub use desk::{Desk, Look, Owner};
+pub use desk::{Desk, Look, Owner, look_at};
 pub use front::{Reading, read_front};
 pub use piece::Piece;
 pub use worker::{search_row, work};
