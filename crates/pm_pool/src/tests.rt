@@ -1,4 +1,6 @@
 //! Tests over lists of digits: the search by one and by workers.
+ghost use Rattle.std.specs.Prelude.{◌≤◌, ◌^◌};
+
 use super::*;
 use pm_outside::OpenGate;
 use pm_space::ToyMaker;

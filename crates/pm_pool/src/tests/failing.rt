@@ -1,6 +1,4 @@
 //! Spaces in which one step finds no memory.
-ghost use Rattle.std.specs.Prelude.{◌≡◌};
-
 use super::*;
 use pm_space::{Maker, Space};
 use std::alloc::{AllocError, Global};
