@@ -13,7 +13,7 @@ use super::level::{Aside, LevelEnd, LevelRun};
 use pm_book::Book;
 use pm_choice::Choices;
 use pm_space::Maker;
-use pm_work::{Piece, Reading, read_front, search_row};
+use pm_work::{Piece, Reading, read_front, search_row, sort_pieces};
 use std::alloc::{AllocError, Global};
 
 // The end of a level, read from a settled book: its front has so much work, up to one more than the
@@ -75,6 +75,7 @@ pub fn settle<M: Maker>(
     let mut pieces = pieces;
     let mut aside = None;
     'rows: for _ in 0..u64::MAX {
+        sort_pieces(&mut pieces);
         match read_front(&book, &pieces, budget) {
             Reading::Settled { work, found } => {
                 let end = end_of(alloc, &book, work, found, budget)?;

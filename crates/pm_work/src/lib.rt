@@ -13,7 +13,7 @@ mod task;
 mod worker;
 
 pub use desk::{Desk, Look, Owner, look_at};
-pub use front::{Reading, read_front};
+pub use front::{Reading, read_front, sort_pieces};
 pub use piece::Piece;
 pub use worker::{search_row, work};
 
