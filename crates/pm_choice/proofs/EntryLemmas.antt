@@ -149,7 +149,6 @@ module _ (entries : Entries) where
       none [] empty = refl
       none (x ∷ xs) empty = absurd (empty x (Contains-append_left (x ∷ []) xs x (Contains-push [] x)))
 
-
   pub closes_join : (b : List ℕ) (c : Bound) (m n : ℕ) → PrecedesBound b c → Closes entries [] (At b) m → Closes entries b c n → Closes entries [] c (m + n)
   closes_join b c m n here p q = record {
     count = count_join (IsWithin [] (At b)) (IsWithin b c) (IsWithin [] c) b m n

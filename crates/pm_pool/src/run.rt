@@ -121,5 +121,13 @@ pub fn run_level<M: Maker + Sync, G: Gate + Sync, R: Threads + Wait + Sync>(
     };
     let pieces = work_all(rt, alloc, maker, level, gate, budget, &room, posts)?;
     let Room { book, .. } = room;
-    settle(alloc, maker, level, workers, budget, book.into_inner(), pieces)
+    settle(
+        alloc,
+        maker,
+        level,
+        workers,
+        budget,
+        book.into_inner(),
+        pieces,
+    )
 }

@@ -14,10 +14,15 @@ use std::sync::{Condvar, Mutex, Wait};
 
 // What a worker did to the book, as a gate is told.
 const TOOK: u8 = 1;
+
 const CLAIMED: u8 = 2;
+
 const SPLIT: u8 = 3;
+
 const RETURNED: u8 = 4;
+
 const CLOSED: u8 = 5;
+
 const FOUND: u8 = 6;
 
 /// The book of a level under its lock, and the signal that it has changed.

@@ -90,7 +90,16 @@ pub fn settle<M: Maker>(
             Reading::Queued { row, work } => {
                 // One attempt more than the budget allows shows that it is exceeded.
                 let fuel = budget - work + 1;
-                search_row(alloc, maker, level, workers, row, fuel, &mut book, &mut pieces)?;
+                search_row(
+                    alloc,
+                    maker,
+                    level,
+                    workers,
+                    row,
+                    fuel,
+                    &mut book,
+                    &mut pieces,
+                )?;
             }
             Reading::Stuck => {
                 aside = Some(Aside { book, pieces });

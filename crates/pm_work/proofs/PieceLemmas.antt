@@ -3,7 +3,6 @@ use Rattle.std.proofs.Common.{◌≡◌, ℕ, Bool, List, [], ◌∷◌, ◌++�
 use Rattle.std.specs.Prelude.{Option, Some, None, All, MatchOption, IsTrue, ◌↔◌, Contains}
 use Rattle.std.proofs.lemmas.List.Elements.{All-weaker, All-push, Contains-append_left, Contains-append_cases}
 use Rattle.pm_space.specs.Key.{Key, Agree}
-use Rattle.pm_choice.specs.declared.Bound.{Bound}
 use Rattle.pm_choice.specs.Entries.{Closes, Finds}
 use Rattle.pm_choice.proofs.EntryLemmas.{finds_same}
 use Rattle.pm_search.specs.Attempts.{attempts_of}

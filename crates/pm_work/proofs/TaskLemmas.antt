@@ -1,6 +1,6 @@
 -- What a worker holds of a row, while its search goes on.
-use Rattle.std.proofs.Common.{◌≡◌, ℕ, ◌<◌, ◌≤◌, ◌∙◌, List, [], ◌∷◌, ◌++◌, inl, inr, sym, ap, subst, arith}
-use Rattle.std.specs.Prelude.{Option, Some, None, All, MatchOption, MatchBool, IsSomeAnd, true}
+use Rattle.std.proofs.Common.{◌≡◌, ℕ, List, [], ◌∷◌, ◌++◌, inl, inr, sym, ap, subst}
+use Rattle.std.specs.Prelude.{Option, Some, None, All, MatchOption, IsSomeAnd}
 use Rattle.pm_space.specs.Key.{Key, Agree}
 use Rattle.pm_choice.specs.declared.Bound.{Bound}
 use Rattle.pm_choice.specs.declared.Bound.TheVariants.{At}

@@ -1,7 +1,6 @@
 -- What the rows of a book say, beside pieces.
 use Rattle.std.specs.Prelude.{◌≡◌, ℕ, ◌+◌, ◌≤◌, ◌⊎◌, ◌↔◌, min, true, false, Bool, List, Option, Contains, All, IsTrue}
-use Rattle.pm_book.specs.declared.row.RowState.{RowState}
-use Rattle.pm_book.specs.declared.row.RowState.TheVariants.{Running, Done}
+use Rattle.pm_book.specs.declared.row.RowState.TheVariants.{Done}
 use Rattle.pm_book.specs.Rows.{Row, BookState, is_above, is_running}
 use Rattle.pm_book.specs.Honest.{front_of, front_work, EndsFound, IsSettled}
 use Rattle.pm_book.specs.Answers.{IsQueuedAt}

@@ -22,7 +22,7 @@ pub struct Look {
 }
 
 /// The place of a worker at a book: where it takes rows, and where it tells what became of them.
-/// What it tells of a row that the book doesn't know goes by the board.
+/// The end of a row that the book doesn't know has no effect.
 pub trait Desk {
     /// The next row to search. None where the worker is to end.
     fn next(&mut self) -> Result<Option<Ticket>, AllocError>;

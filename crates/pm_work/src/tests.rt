@@ -8,7 +8,12 @@ use std::alloc::{AllocError, Global};
 use std::test::Fail;
 
 // What a worker over a new book leaves: the number of its pieces, and what the book says.
-fn leaves(alloc: Global, maker: &ToyMaker, workers: u16, budget: u64) -> Result<(usize, Reading), AllocError>
+fn leaves(
+    alloc: Global,
+    maker: &ToyMaker,
+    workers: u16,
+    budget: u64,
+) -> Result<(usize, Reading), AllocError>
     requires { budget ≤ 10 ^ 12 }
 {
     let mut book = Book::new(alloc, budget)?;

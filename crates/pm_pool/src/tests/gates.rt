@@ -54,9 +54,7 @@ impl Gate for HoldingGate {
 
 // Whether a worker claimed a row.
 fn has_claimed(events: &[Event], number: u16) -> bool {
-    events
-        .iter()
-        .any(|event| matches!(event, Event::Claimed { worker, .. } if *worker == number))
+    events.iter().any(|event| matches!(event, Event::Claimed { worker, .. } if *worker == number))
 }
 
 #[test]

@@ -1,5 +1,5 @@
 -- A row that is being searched: what a worker holds of it.
-use Rattle.std.specs.Prelude.{◌≡◌, ℕ, ◌≤◌, false, List, Option, Some, MatchOption}
+use Rattle.std.specs.Prelude.{◌≡◌, ℕ, ◌≤◌, false, List, Option, MatchOption}
 use Rattle.pm_space.specs.Key.{Key}
 use Rattle.pm_choice.specs.declared.Bound.{Bound}
 use Rattle.pm_choice.specs.declared.Bound.TheVariants.{At}

@@ -1,6 +1,3 @@
-use Rattle.std.proofs.Common.{ℕ, List, sym, ap, subst, ◌∙◌}
-use Rattle.pm_choice.specs.declared.Bound.{Bound}
-use Rattle.pm_choice.specs.declared.Bound.TheVariants.{At}
 use Rattle.pm_choice.proofs.OrderLemmas.{same_bound}
 use Rattle.pm_choice.proofs.Bound.is_same.Goals as goal
 

@@ -1,4 +1,4 @@
-use Rattle.std.proofs.Common.{◌≡◌, List, sym, subst}
+use Rattle.std.proofs.Common.{List, sym, subst}
 use Rattle.std.specs.Prelude.{All}
 use Rattle.pm_search.proofs.AgreeLemmas.{agree_sym}
 use Rattle.pm_work.specs.declared.piece.Piece.{Piece}
