@@ -140,6 +140,15 @@ module _ (entries : Entries) where
     none = λ list marked within. within.below;
   }
 
+  -- an interval from a list to the same list has no entries
+  pub closes_none : (from : List ℕ) (work : ℕ) → Closes entries from (At from) work → work ≡ 0
+  closes_none from work closes =
+      sym closes.count.counted ∙ none closes.count.all (λ list has. let within = ((closes.count.are.exactly list).0 has).1 in within.not_below within.below)
+    where
+      none : (all : List (List ℕ)) → ((list : List ℕ) → Contains all list → ⊥) → length all ≡ 0
+      none [] empty = refl
+      none (x ∷ xs) empty = absurd (empty x (Contains-append_left (x ∷ []) xs x (Contains-push [] x)))
+
   pub closes_join : (b : List ℕ) (c : Bound) (m n : ℕ) → PrecedesBound b c → Closes entries [] (At b) m → Closes entries b c n → Closes entries [] c (m + n)
   closes_join b c m n here p q = record {
     count = count_join (IsWithin [] (At b)) (IsWithin b c) (IsWithin [] c) b m n

@@ -4,7 +4,7 @@ use Rattle.std.specs.Prelude.{◌↔◌}
 use Rattle.std.proofs.lemmas.Bool.{cases_order}
 use Rattle.std.specs.declared.cmp.Ordering.{Ordering}
 use Rattle.std.specs.declared.cmp.Ordering.TheVariants.{Less, Equal, Greater}
-use Rattle.std.specs.Ordering.{nat_cmp, ordering_then, is_lt}
+use Rattle.std.specs.Ordering.{nat_cmp, ordering_then, is_lt, is_eq}
 use Rattle.std.specs.Cmp.{nat_cmp_is}
 use Rattle.std.specs.Cmp.Lexicographic.{slice_cmp}
 use Rattle.pm_choice.specs.declared.Bound.{Bound}
@@ -140,3 +140,17 @@ pub precedes_at : (r : Ordering) (list end slice : List ℕ) (bound : Bound) (b 
 precedes_at r list end slice bound b bound-is slice-is order told =
     let iff = less_precedes r list end (subst (λ (s : List ℕ). IsOrderOf r list s) slice-is order) in
     (λ e. subst (λ (x : Bound). PrecedesBound list x) (sym bound-is) (iff.0 (sym told ∙ e)), λ p. told ∙ iff.1 (subst (λ (x : Bound). PrecedesBound list x) bound-is p))
+
+-- two lists are one exactly where the comparison says so
+pub equal_is_same : (r : Ordering) (a b : List ℕ) → IsOrderOf r a b → (is_eq r ≡ true) ↔ (a ≡ b)
+equal_is_same Less a b is = (λ e. absurd cc, λ same. absurd (irreflexive b (subst (λ (l : List ℕ). Precedes l b) same is)))
+equal_is_same Equal a b is = (λ e. is, λ same. refl)
+equal_is_same Greater a b is = (λ e. absurd cc, λ same. absurd (irreflexive b (subst (λ (l : List ℕ). Precedes b l) same is)))
+
+-- so of two bounds that are lists
+pub same_bound : (r : Ordering) (list end slice slice' : List ℕ) (bound other : Bound) (b : Bool) → bound ≡ At list → other ≡ At end → slice ≡ list → slice' ≡ end → IsOrderOf r slice slice' → b ≡ is_eq r → (b ≡ true) ↔ (bound ≡ other)
+same_bound r list end slice slice' bound other b bound-is other-is slice-is slice'-is order told =
+    let iff = equal_is_same r slice slice' order in (
+      λ e. let same : slice ≡ slice' = iff.0 (sym told ∙ e) in cc,
+      λ same. let ends : At list ≡ At end = sym bound-is ∙ same ∙ other-is in told ∙ iff.1 cc,
+    )

@@ -33,6 +33,31 @@ pub enum Bound {
     End,
 }
 
+impl Bound {
+    /// The same bound.
+    pub fn copy(&self) -> Result<Bound, AllocError>
+        ensures { IfOk result (λ bound. bound ≡ self.now) }
+    {
+        match self {
+            Bound::At(list) => Ok(Bound::At(list.copy()?)),
+            Bound::End => Ok(Bound::End),
+        }
+    }
+
+    /// Whether two bounds are the same.
+    pub fn is_same(&self, other: &Bound) -> bool
+        ensures { IsTrue result ↔ (self.now ≡ other.now) }
+    {
+        match self {
+            Bound::At(list) => match other {
+                Bound::At(end) => compare(list.as_slice(), end.as_slice()).is_eq(),
+                Bound::End => false,
+            },
+            Bound::End => matches!(other, Bound::End),
+        }
+    }
+}
+
 impl Choices {
     /// The list with these numbers.
     pub fn from_slice(alloc: Global, list: &[u32]) -> Result<Choices, AllocError>
@@ -111,6 +136,18 @@ mod tests {
         assert_eq!(rt; copy.pop(), Some(3));
         assert_eq!(rt; copy.pop(), Some(0));
         assert_eq!(rt; copy.pop(), None);
+        Ok(())
+    }
+
+    #[test]
+    fn bounds(rt: HostRuntime) -> Result<(), Fail> {
+        let bound = Bound::At(Choices::from_slice(rt.alloc(), &[0, 3])?);
+        let other = Bound::At(Choices::from_slice(rt.alloc(), &[0])?);
+        assert!(rt; bound.copy()?.is_same(&bound));
+        assert!(rt; !bound.is_same(&other));
+        assert!(rt; !bound.is_same(&Bound::End));
+        assert!(rt; !Bound::End.is_same(&bound));
+        assert!(rt; Bound::End.copy()?.is_same(&Bound::End));
         Ok(())
     }
 

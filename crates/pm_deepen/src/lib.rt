@@ -10,6 +10,10 @@ use pm_pool::{LevelEnd, run_level_alone};
 use pm_space::Maker;
 use std::alloc::{AllocError, Global};
 
+mod shared;
+
+pub use shared::deepen;
+
 /// How a search of levels ends.
 #[derive(Debug, Drop)]
 pub enum DeepEnd {

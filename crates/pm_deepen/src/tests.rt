@@ -1,5 +1,6 @@
 //! Tests over lists of digits.
 use super::*;
+use pm_outside::OpenGate;
 use pm_space::ToyMaker;
 use std::test::Fail;
 
@@ -21,6 +22,51 @@ fn ends(rt: HostRuntime) -> Result<(), Fail> {
     assert_eq!(rt; depth, 0);
     let hopeless = ToyMaker::new(2, 2, 4);
     let Outcome { works, end } = deepen_alone(rt.alloc(), &hopeless, 2, 6)?;
+    let DeepEnd::DepthReached = end else {
+        panic!(rt; "not exhausted");
+    };
+    assert_eq!(rt; works.as_slice(), [6, 6, 6].as_slice());
+    Ok(())
+}
+
+// Whether the search ended with this proof of level 0.
+fn is_proof(outcome: Result<Outcome, AllocError>, list: &[u32], count: u64) -> bool {
+    match outcome {
+        Ok(
+            Outcome {
+                works,
+                end: DeepEnd::Proof { depth, path, work },
+            },
+        ) => works.is_empty() && depth == 0 && path.as_slice() == list && work == count,
+        _ => false,
+    }
+}
+
+#[test]
+fn proved_by_workers(rt: HostRuntime) -> Result<(), Fail> {
+    let maker = ToyMaker::new(2, 2, 3);
+    assert!(rt; is_proof(deepen_alone(rt.alloc(), &maker, 3, 6), &[1, 1], 6));
+    assert!(rt;
+        is_proof(
+            deepen(&rt, rt.alloc(), &maker, &OpenGate, 1, 3, 6),
+            &[1, 1],
+            6
+        )
+    );
+    assert!(rt;
+        is_proof(
+            deepen(&rt, rt.alloc(), &maker, &OpenGate, 4, 3, 6),
+            &[1, 1],
+            6
+        )
+    );
+    Ok(())
+}
+
+#[test]
+fn exhausted_by_workers(rt: HostRuntime) -> Result<(), Fail> {
+    let maker = ToyMaker::new(2, 2, 4);
+    let Outcome { works, end } = deepen(&rt, rt.alloc(), &maker, &OpenGate, 2, 2, 6)?;
     let DeepEnd::DepthReached = end else {
         panic!(rt; "not exhausted");
     };

@@ -2,6 +2,7 @@
 #![tactic(auto)]
 
 mod counts;
+mod gate;
 mod host_library;
 mod host_sink;
 mod library;
@@ -11,6 +12,7 @@ mod sink;
 #[cfg(test)]
 mod tests;
 
+pub use gate::{Gate, OpenGate};
 pub use host_library::HostLibrary;
 pub use host_sink::HostSink;
 pub use library::{FetchFault, Library};

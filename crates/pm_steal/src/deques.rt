@@ -139,6 +139,7 @@ impl Reach {
     /// Takes the oldest number of the victim's deque.
     pub fn steal(&mut self, victim: u16) -> Stolen
         requires { victim < reach_len self.old }
+        ensures victims { reach_len self.new ≡ reach_len self.old }
         ensures deques { SameDeques self.old self.new }
         ensures steps { reach_steps self.new
             ≡ slice_set (reach_steps self.old) victim

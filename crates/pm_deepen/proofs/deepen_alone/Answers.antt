@@ -1,6 +1,6 @@
 use Rattle.std.proofs.Common.{◌≡◌, ℕ, List, [], length, sym, subst, ap, arith}
 use Rattle.pm_pool.specs.Level.{EndsLevel}
-use Rattle.pm_pool.specs.declared.LevelEnd.{LevelEnd}
+use Rattle.pm_pool.specs.declared.level.LevelEnd.{LevelEnd}
 use Rattle.pm_deepen.specs.Answer.{AreExhausted}
 use Rattle.pm_deepen.proofs.WorksLemmas.{one_more, none_exhausted, one_more_exhausted, answers_proof, answers_budget, answers_depth}
 use Rattle.pm_deepen.proofs.deepen_alone.Goals as goal

@@ -3,8 +3,8 @@ use Rattle.pm_search.specs.declared.Turn.{Turn}
 use Rattle.pm_choice.specs.declared.Bound.TheVariants.{End}
 use Rattle.pm_search.specs.Turns.{IsTurn}
 use Rattle.pm_pool.proofs.LevelLemmas.{level_turn, paused_over, closed_over, found_over}
-use Rattle.pm_pool.proofs.run_level_alone.Goals.{in_default-via-in-Closed+else-work-budget, in_default-via-in-Found+else-work-budget-2, in_default-via-in_default}
-use Rattle.pm_pool.proofs.run_level_alone.Goals as goal
+use Rattle.pm_pool.proofs.alone.run_level_alone.Goals.{in_default-via-in-Closed+else-work-budget, in_default-via-in-Found+else-work-budget-2, in_default-via-in_default}
+use Rattle.pm_pool.proofs.alone.run_level_alone.Goals as goal
 
 pub returns-in-Closed : goal.returns-in-Closed
 returns-in-Closed g c =
