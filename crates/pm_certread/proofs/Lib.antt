@@ -1,0 +1,5 @@
+pub mod WordLemmas
+pub mod TextLemmas
+pub mod CutLemmas
+pub mod LineLemmas
+pub mod FormLemmas

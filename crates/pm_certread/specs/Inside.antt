@@ -1,3 +1,5 @@
 -- Models of private code: no public contract names them.
 pub mod Words
 pub mod Cuts
+pub mod Wholes
+pub mod Head

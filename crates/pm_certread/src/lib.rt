@@ -3,6 +3,9 @@
 
 mod cert;
 mod error;
+mod header;
+mod levels;
+mod lines;
 mod words;
 
 pub use cert::Cert;

@@ -1,6 +1,7 @@
 //! The words of a line, and what they stand for.
 ghost use Rattle.std.specs.Prelude.{◌≡◌, ◌≢◌, ◌^◌, ◌<◌, ◌≤◌, ◌↔◌, ◌++◌, ℕ, List, IfOk, IfSome, IfNone, IsTrue, codes, decimal, false, length, map, string_bytes};
 ghost use Rattle.std.specs.Option.{option_map};
+ghost use Rattle.pm_logic.specs.Problem.{IsPrintable};
 ghost use Rattle.pm_certread.specs.Forms.{IsNumber};
 ghost use Rattle.pm_certread.specs.Inside.Words.{first_length, next_place, parts, unescaped, words_of};
 ghost use Rattle.pm_certread.specs.Inside.Cuts.{IsCut, ReadsNumber, ReadsNumbers, ReadsText, bytes_of};
@@ -84,10 +85,12 @@ fn words_of<'a>(alloc: Global, line: &'a [u8]) -> Result<Vec<&'a [u8]>, AllocErr
 {
     let mut words = Vec::with_capacity(alloc, count_words(line))?;
     let mut rest = line;
-    'words: while first_length(rest) < rest.len() {
-        let (word, after) = rest.split_at(first_length(rest));
+    let mut end = first_length(rest);
+    'words: while end < rest.len() {
+        let (word, after) = rest.split_at(end);
         words.push(word)?;
         rest = &after[1..];
+        end = first_length(rest);
     }
     words.push(rest)?;
     Ok(words)
@@ -175,4 +178,38 @@ fn unescaped(alloc: Global, word: &[u8]) -> Result<Vec<u8>, AllocError>
         }
     }
     Ok(text)
+}
+
+// Whether the bytes may be a symbol's text.
+fn is_printable(bytes: &[u8]) -> bool
+    ensures { IsTrue result ↔ IsPrintable bytes.now }
+{
+    if bytes.is_empty() {
+        return false;
+    }
+    for byte in bytes {
+        if *byte < b' ' || b'~' < *byte {
+            return false;
+        }
+    }
+    true
+}
+
+/// The text that is written as the word, if there is one.
+pub fn word_text(alloc: Global, word: &[u8]) -> Result<Option<String>, AllocError>
+    ensures { IfOk result (λ text. ReadsText word.now (option_map string_bytes text)) }
+{
+    let text = unescaped(alloc, word)?;
+    if !is_printable(&text) {
+        return Ok(None);
+    }
+    let Ok(text) = String::from_utf8(text) else {
+        return Ok(None);
+    };
+    let mut written = Vec::with_capacity(alloc, word.len())?;
+    write_word(&mut written, text.as_str())?;
+    if !are_same(&written, word) {
+        return Ok(None);
+    }
+    Ok(Some(text))
 }

@@ -1,5 +1,5 @@
 -- A line's words, as the code has them.
-use Rattle.std.specs.Prelude.{◌≡◌, ◌≢◌, ℕ, List, Option, None, Some, All, map, decimal, string_bytes}
+use Rattle.std.specs.Prelude.{◌≡◌, ◌≢◌, ◌==◌, ℕ, suc, List, [], ◌∷◌, if◌then◌else◌, Option, None, Some, All, map, decimal, string_bytes}
 use Rattle.std.specs.Borrow.{Bor}
 use Rattle.pm_logic.specs.Problem.{IsPrintable}
 use Rattle.pm_logic.specs.Word.{written_word}
@@ -30,3 +30,8 @@ ReadsNumbers words (Some ns) = All IsNumber ns × (words ≡ map decimal ns)
 abbrev pub ReadsText : List ℕ → Option (List ℕ) → Type 0
 ReadsText word None = (text : List ℕ) → IsPrintable text → word ≢ written_word text
 ReadsText word (Some text) = IsPrintable text × (word ≡ written_word text)
+
+-- how many bytes the first line has, with its LF
+abbrev pub line_length : List ℕ → ℕ
+line_length [] = 0
+line_length (byte ∷ bytes) = if byte == 10 then 1 else suc (line_length bytes)
