@@ -1,6 +1,7 @@
 -- A line is the line of its words, and of whole words only of these.
 use Rattle.std.proofs.Common.{◌≡◌, ◌∙◌, ℕ, zero, suc, ◌+◌, ◌<◌, ◌≤◌, ◌==◌, Bool, true, false, cond, List, [], ◌∷◌, ◌++◌, length, refl, sym, ap, subst, arith, eqb-true, true≢false, Option, Some, None, Bor}
 use Rattle.std.specs.List.{onto_first}
+use Rattle.std.specs.Option.{option_map}
 use Rattle.pm_certread.specs.declared.words.Place.{Place}
 use Rattle.pm_certread.specs.declared.words.Place.TheVariants.{Outside, Quoted, Escaped}
 use Rattle.pm_certread.specs.Lines.{spaced, ended}
@@ -52,3 +53,12 @@ cut_is raw words cut ws is = cut.1 ∙ ap ended (sym (spaced-words_from Outside 
 -- and the words are those of the line
 pub is_cut : (raw : List ℕ) (words : List (Bor (List ℕ))) → IsCut raw (Some words) → (w : List ℕ) (ws : List (List ℕ)) → AreWhole (w ∷ ws) → raw ≡ ended (spaced (w ∷ ws)) → bytes_of words ≡ w ∷ ws
 is_cut raw words cut w ws whole is = cut.2 ∙ line_words cut.0 w ws whole (sym cut.1 ∙ is)
+
+-- what the code has of a line's words, where there are some and where there are none
+pub cut_some : {V : Type 0} (f : V → List (Bor (List ℕ))) (raw : List ℕ) (o : Option V) (v : V) (words : List (Bor (List ℕ)))
+    → IsCut raw (option_map f o) → o ≡ Some v → words ≡ f v → IsCut raw (Some words)
+cut_some {V} f raw o v words cut is same =
+    subst (λ (ws : List (Bor (List ℕ))). IsCut raw (Some ws)) (sym same) (subst (λ (p : Option V). IsCut raw (option_map f p)) is cut)
+
+pub cut_none : {V : Type 0} (f : V → List (Bor (List ℕ))) (raw : List ℕ) (o : Option V) → IsCut raw (option_map f o) → o ≡ None → IsCut raw None
+cut_none {V} f raw o cut is = subst (λ (p : Option V). IsCut raw (option_map f p)) is cut

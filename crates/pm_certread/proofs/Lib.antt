@@ -3,3 +3,4 @@ pub mod TextLemmas
 pub mod CutLemmas
 pub mod LineLemmas
 pub mod FormLemmas
+pub mod LevelLemmas

@@ -1,7 +1,7 @@
 //! The header.
 ghost use Rattle.std.specs.Prelude.{◌≡◌, IfOk};
 ghost use Rattle.pm_certread.specs.Inside.Cuts.{bytes_of};
-ghost use Rattle.pm_certread.specs.Inside.Head.{IsHeaderLine, ReadsBound, ReadsClass, ReadsCounts, ReadsHeader, ReadsSearch, ReadsSize, ReadsStart};
+ghost use Rattle.pm_certread.specs.Inside.Head.{IsHeaderLine, ReadsBound, ReadsBounded, ReadsClass, ReadsCounts, ReadsDepth, ReadsFront, ReadsHeader, ReadsSize, ReadsStart, ReadsVersion};
 
 use crate::words::{is, line_words, number};
 use pm_logic::{BoundKind, Class, Start};
@@ -19,9 +19,17 @@ pub struct Header {
     pub nodes: u64,
 }
 
-// The class and the start rule of the search.
+// The version of a certificate.
 #[derive(Clone, Copy, Debug)]
-struct Search {
+enum Version {
+    First,
+    Second,
+}
+
+// What a header begins with.
+#[derive(Clone, Copy, Debug)]
+struct Front {
+    version: Version,
     class: Class,
     start: Start,
 }
@@ -82,26 +90,52 @@ fn bound_of(word: &[u8]) -> Option<BoundKind>
     None
 }
 
-// The search of the words `class C start S`.
-fn search_of(mark: &[u8], class: &[u8], other: &[u8], start: &[u8]) -> Option<Search>
-    ensures { ReadsSearch mark.now class.now other.now start.now result }
+// The version of this word.
+fn version_of(word: &[u8]) -> Option<Version>
+    ensures { ReadsVersion word.now result }
 {
-    if !is(mark, "class") {
+    if is(word, "1") {
+        return Some(Version::First);
+    }
+    if is(word, "2") {
+        return Some(Version::Second);
+    }
+    None
+}
+
+// What the words `parmel V class C start S` say.
+fn front_of(words: &[&[u8]]) -> Option<Front>
+    ensures { ReadsFront (bytes_of words.now) result }
+{
+    let [mark, version, class_mark, class, start_mark, start] = words else {
+        return None;
+    };
+    if !is(mark, "parmel") {
         return None;
     }
-    if !is(other, "start") {
+    if !is(class_mark, "class") {
         return None;
     }
-    match (class_of(class), start_of(start)) {
-        (Some(class), Some(start)) => Some(Search { class, start }),
+    if !is(start_mark, "start") {
+        return None;
+    }
+    match (version_of(version), class_of(class), start_of(start)) {
+        (Some(version), Some(class), Some(start)) => Some(Front {
+            version,
+            class,
+            start,
+        }),
         _ => None,
     }
 }
 
 // The counts of the words `terms T nodes M`.
-fn counts_of(mark: &[u8], terms: &[u8], other: &[u8], nodes: &[u8]) -> Option<Counts>
-    ensures { ReadsCounts mark.now terms.now other.now nodes.now result }
+fn counts_of(words: &[&[u8]]) -> Option<Counts>
+    ensures { ReadsCounts (bytes_of words.now) result }
 {
+    let [mark, terms, other, nodes] = words else {
+        return None;
+    };
     if !is(mark, "terms") {
         return None;
     }
@@ -112,4 +146,90 @@ fn counts_of(mark: &[u8], terms: &[u8], other: &[u8], nodes: &[u8]) -> Option<Co
         (Some(terms), Some(nodes)) => Some(Counts { terms, nodes }),
         _ => None,
     }
+}
+
+// The size of the words `depth D`.
+fn depth_of(words: &[&[u8]]) -> Option<u64>
+    ensures { ReadsDepth (bytes_of words.now) result }
+{
+    let [mark, size] = words else {
+        return None;
+    };
+    if !is(mark, "depth") {
+        return None;
+    }
+    number(size)
+}
+
+// The size of the words `bound B size N`.
+fn bounded_of(words: &[&[u8]]) -> Option<Size>
+    ensures { ReadsBounded (bytes_of words.now) result }
+{
+    let [mark, bound, other, size] = words else {
+        return None;
+    };
+    if !is(mark, "bound") {
+        return None;
+    }
+    if !is(other, "size") {
+        return None;
+    }
+    match (bound_of(bound), number(size)) {
+        (Some(bound), Some(size)) => Some(Size { bound, size }),
+        _ => None,
+    }
+}
+
+// The size of the words between the front and the counts.
+fn size_of(version: Version, words: &[&[u8]]) -> Option<Size>
+    ensures { ReadsSize version (bytes_of words.now) result }
+{
+    match version {
+        Version::First => match depth_of(words) {
+            Some(size) => Some(Size {
+                bound: BoundKind::Depth,
+                size,
+            }),
+            None => None,
+        },
+        Version::Second => bounded_of(words),
+    }
+}
+
+// What the words of a header say.
+fn header_of(words: &[&[u8]]) -> Option<Header>
+    ensures { ReadsHeader (bytes_of words.now) result }
+{
+    if words.len() < 10 {
+        return None;
+    }
+    let (front, rest) = words.split_at(6);
+    let (size, counts) = rest.split_at(rest.len() - 4);
+    let Some(front) = front_of(front) else {
+        return None;
+    };
+    let Some(size) = size_of(front.version, size) else {
+        return None;
+    };
+    let Some(counts) = counts_of(counts) else {
+        return None;
+    };
+    Some(Header {
+        class: front.class,
+        start: front.start,
+        bound: size.bound,
+        size: size.size,
+        terms: counts.terms,
+        nodes: counts.nodes,
+    })
+}
+
+// What the line says, if it is a header.
+fn header_line(alloc: Global, raw: &[u8]) -> Result<Option<Header>, AllocError>
+    ensures { IfOk result (IsHeaderLine raw.now) }
+{
+    let Some(words) = line_words(alloc, raw)? else {
+        return Ok(None);
+    };
+    Ok(header_of(&words))
 }

@@ -8,7 +8,9 @@ use Rattle.pm_certread.specs.declared.levels.Level.{Level}
 use Rattle.pm_certread.specs.declared.levels.Level.TheVariants.{Exhausted, Proved}
 use Rattle.pm_certread.specs.declared.levels.LevelLine.{LevelLine}
 use Rattle.pm_certread.specs.declared.header.Header.{Header as CodeHeader}
-use Rattle.pm_certread.specs.declared.header.Search.{Search}
+use Rattle.pm_certread.specs.declared.header.Version.{Version}
+use Rattle.pm_certread.specs.declared.header.Version.TheVariants.{First, Second}
+use Rattle.pm_certread.specs.declared.header.Front.{Front}
 use Rattle.pm_certread.specs.declared.header.Size.{Size}
 use Rattle.pm_certread.specs.declared.header.Counts.{Counts}
 use Rattle.pm_certread.specs.Lines.{Header, class_word, start_word, bound_word}
@@ -50,40 +52,62 @@ abbrev pub ReadsBound : List ℕ → Option BoundKind → Type 0
 ReadsBound word None = (bound : BoundKind) → word ≢ bound_word bound
 ReadsBound word (Some bound) = word ≡ bound_word bound
 
--- four words: class C start S
-pub record AreSearch (mark class_part other start_part : List ℕ) (class : Class) (start : Start) :
-    Type 0 where
-  pub mark_is : mark ≡ codes "class"
-  pub class_is : class_part ≡ class_word class
-  pub other_is : other ≡ codes "start"
-  pub start_is : start_part ≡ start_word start
+abbrev pub version_word : Version → List ℕ
+version_word First = codes "1"
+version_word Second = codes "2"
 
-abbrev pub ReadsSearch : List ℕ → List ℕ → List ℕ → List ℕ → Option Search → Type 0
-ReadsSearch a b c d None = (class : Class) (start : Start) → ¬ AreSearch a b c d class start
-ReadsSearch a b c d (Some search) = AreSearch a b c d search.class search.start
+-- parmel V class C start S
+abbrev pub front_words : Version → Class → Start → List (List ℕ)
+front_words version class start =
+    codes "parmel" ∷ version_word version ∷ codes "class" ∷ class_word class ∷ codes "start"
+    ∷ start_word start ∷ []
 
--- four words: terms T nodes M
-pub record AreCounts (mark terms_part other nodes_part : List ℕ) (terms nodes : ℕ) : Type 0 where
-  pub small_terms : IsNumber terms
-  pub small_nodes : IsNumber nodes
-  pub mark_is : mark ≡ codes "terms"
-  pub terms_are : terms_part ≡ decimal terms
-  pub other_is : other ≡ codes "nodes"
-  pub nodes_are : nodes_part ≡ decimal nodes
+abbrev pub ReadsVersion : List ℕ → Option Version → Type 0
+ReadsVersion word None = (version : Version) → word ≢ version_word version
+ReadsVersion word (Some version) = word ≡ version_word version
 
-abbrev pub ReadsCounts : List ℕ → List ℕ → List ℕ → List ℕ → Option Counts → Type 0
-ReadsCounts a b c d None = (terms nodes : ℕ) → ¬ AreCounts a b c d terms nodes
-ReadsCounts a b c d (Some counts) = AreCounts a b c d counts.terms counts.nodes
+abbrev pub ReadsFront : List (List ℕ) → Option Front → Type 0
+ReadsFront words None =
+    (version : Version) (class : Class) (start : Start) → words ≢ front_words version class start
+ReadsFront words (Some front) = words ≡ front_words front.version front.class front.start
 
--- after the version 1: depth D; after the version 2: bound B size N
-abbrev pub AreSize : List ℕ → List (List ℕ) → BoundKind → ℕ → Type 0
-AreSize version words bound size =
-    IsNumber size
-    × (((version ≡ codes "1") × (bound ≡ Depth) × (words ≡ codes "depth" ∷ decimal size ∷ []))
-        ⊎ ((version ≡ codes "2")
-            × (words ≡ codes "bound" ∷ bound_word bound ∷ codes "size" ∷ decimal size ∷ [])))
+-- terms T nodes M
+abbrev pub back_words : ℕ → ℕ → List (List ℕ)
+back_words terms nodes =
+    codes "terms" ∷ decimal terms ∷ codes "nodes" ∷ decimal nodes ∷ []
 
-abbrev pub ReadsSize : List ℕ → List (List ℕ) → Option Size → Type 0
+abbrev pub ReadsCounts : List (List ℕ) → Option Counts → Type 0
+ReadsCounts words None =
+    (terms nodes : ℕ) → IsNumber terms → IsNumber nodes → words ≢ back_words terms nodes
+ReadsCounts words (Some counts) =
+    IsNumber counts.terms × IsNumber counts.nodes
+    × (words ≡ back_words counts.terms counts.nodes)
+
+-- depth D
+abbrev pub depth_words : ℕ → List (List ℕ)
+depth_words size = codes "depth" ∷ decimal size ∷ []
+
+abbrev pub ReadsDepth : List (List ℕ) → Option ℕ → Type 0
+ReadsDepth words None = (size : ℕ) → IsNumber size → words ≢ depth_words size
+ReadsDepth words (Some size) = IsNumber size × (words ≡ depth_words size)
+
+-- bound B size N
+abbrev pub bounded_words : BoundKind → ℕ → List (List ℕ)
+bounded_words bound size =
+    codes "bound" ∷ bound_word bound ∷ codes "size" ∷ decimal size ∷ []
+
+abbrev pub ReadsBounded : List (List ℕ) → Option Size → Type 0
+ReadsBounded words None =
+    (bound : BoundKind) (size : ℕ) → IsNumber size → words ≢ bounded_words bound size
+ReadsBounded words (Some found) =
+    IsNumber found.size × (words ≡ bounded_words found.bound found.size)
+
+-- the words between
+abbrev pub AreSize : Version → List (List ℕ) → BoundKind → ℕ → Type 0
+AreSize First words bound size = IsNumber size × (bound ≡ Depth) × (words ≡ depth_words size)
+AreSize Second words bound size = IsNumber size × (words ≡ bounded_words bound size)
+
+abbrev pub ReadsSize : Version → List (List ℕ) → Option Size → Type 0
 ReadsSize version words None = (bound : BoundKind) (size : ℕ) → ¬ AreSize version words bound size
 ReadsSize version words (Some found) = AreSize version words found.bound found.size
 
@@ -100,16 +124,12 @@ header_of header =
 
 -- the words of a header
 pub record AreHeader (words : List (List ℕ)) (h : Header) : Type 0 where
-  pub version : List ℕ
+  pub version : Version
   pub middle : List (List ℕ)
   pub small_terms : IsNumber h.terms
   pub small_nodes : IsNumber h.nodes
   pub size : AreSize version middle h.bound h.size
-  pub is :
-      words
-      ≡ codes "parmel" ∷ version ∷ codes "class" ∷ class_word h.class ∷ codes "start"
-      ∷ start_word h.start
-      ∷ (middle ++ codes "terms" ∷ decimal h.terms ∷ codes "nodes" ∷ decimal h.nodes ∷ [])
+  pub is : words ≡ front_words version h.class h.start ++ (middle ++ back_words h.terms h.nodes)
 
 abbrev pub ReadsHeader : List (List ℕ) → Option CodeHeader → Type 0
 ReadsHeader words None = (h : Header) → ¬ AreHeader words h
