@@ -4,3 +4,5 @@ pub mod CutLemmas
 pub mod LineLemmas
 pub mod FormLemmas
 pub mod LevelLemmas
+pub mod HeaderLemmas
+pub mod ProgressLemmas

@@ -3,3 +3,4 @@ pub mod Words
 pub mod Cuts
 pub mod Wholes
 pub mod Head
+pub mod Progress

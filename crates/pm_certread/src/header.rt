@@ -1,8 +1,14 @@
 //! The header.
-ghost use Rattle.std.specs.Prelude.{◌≡◌, IfOk};
+ghost use Rattle.std.specs.Prelude.{◌≡◌, ◌+◌, ◌↔◌, IfOk, IfErr, IsTrue, length};
+ghost use Rattle.pm_logic.specs.Problem.{Problem};
+ghost use Rattle.pm_certread.specs.Lines.{cut_lines};
+ghost use Rattle.pm_certread.specs.Reading.{heading, terms, no_terms};
+ghost use Rattle.pm_certread.specs.Inside.Progress.{Continues, RefusesFrom};
 ghost use Rattle.pm_certread.specs.Inside.Cuts.{bytes_of};
-ghost use Rattle.pm_certread.specs.Inside.Head.{IsHeaderLine, ReadsBound, ReadsBounded, ReadsClass, ReadsCounts, ReadsDepth, ReadsFront, ReadsHeader, ReadsSize, ReadsStart, ReadsVersion};
+ghost use Rattle.pm_certread.specs.Inside.Head.{IsHeaderLine, header_of, ReadsBound, ReadsBounded, ReadsClass, ReadsCounts, ReadsDepth, ReadsFront, ReadsHeader, ReadsSize, ReadsStart, ReadsVersion};
 
+use crate::error::{CertError, CertKind};
+use crate::lines::Lines;
 use crate::words::{is, line_words, number};
 use pm_logic::{BoundKind, Class, Start};
 use std::alloc::{AllocError, Global};
@@ -232,4 +238,30 @@ fn header_line(alloc: Global, raw: &[u8]) -> Result<Option<Header>, AllocError>
         return Ok(None);
     };
     Ok(header_of(&words))
+}
+
+// Whether the lines after the header are as many as it says: the term lines, the root's, the node
+// lines and the last.
+fn agrees(header: &Header, after: u64) -> bool
+    ensures { IsTrue result ↔ (after ≡ header.now.terms + header.now.nodes + 2) }
+{
+    header.terms <= after && header.nodes <= after - header.terms
+        && after - header.terms - header.nodes == 2
+}
+
+/// Takes the header.
+pub fn read_header(alloc: Global, lines: &mut Lines) -> Result<Header, CertError>
+    ensures ok { IfOk result (λ header. (over : Problem) → Continues over heading lines.old
+        (terms (record { header = header_of header; line = lines.new.taken }) no_terms) lines.new) }
+    ensures err { IfErr result
+        (λ error. (over : Problem) → RefusesFrom over heading lines.old error) }
+{
+    let raw = lines.take()?;
+    let Some(header) = header_line(alloc, raw)? else {
+        return Err(lines.refusal(CertKind::Syntax));
+    };
+    if !agrees(&header, lines.count()) {
+        return Err(lines.refusal(CertKind::Counts));
+    }
+    Ok(header)
 }

@@ -1,8 +1,13 @@
 //! The status and the levels, which stand before the header.
-ghost use Rattle.std.specs.Prelude.{◌≡◌, ◌≢◌, IfOk, IfSome, IfNone};
+ghost use Rattle.std.specs.Prelude.{◌≡◌, ◌≢◌, IfOk, IfErr, IfSome, IfNone, OnOk};
+ghost use Rattle.pm_logic.specs.Problem.{Problem};
+ghost use Rattle.pm_certread.specs.Reading.{opening, heading};
+ghost use Rattle.pm_certread.specs.Inside.Progress.{Continues, RefusesFrom};
 ghost use Rattle.pm_certread.specs.Inside.Cuts.{bytes_of};
 ghost use Rattle.pm_certread.specs.Inside.Head.{IsLevelLine, ReadsLevel, kind_word};
 
+use crate::error::{CertError, CertKind};
+use crate::lines::Lines;
 use crate::words::{is, line_words, number};
 use std::alloc::{AllocError, Global};
 
@@ -71,4 +76,26 @@ fn read_level(alloc: Global, raw: &[u8], level: u64) -> Result<Option<Level>, Al
         return Ok(None);
     }
     Ok(Some(line.kind))
+}
+
+/// Takes the lines before the header: the status and the levels.
+pub fn read_levels(alloc: Global, lines: &mut Lines) -> Result<(), CertError>
+    ensures ok { OnOk result
+        ((over : Problem) → Continues over opening lines.old heading lines.new) }
+    ensures err { IfErr result
+        (λ error. (over : Problem) → RefusesFrom over opening lines.old error) }
+{
+    let status = lines.take()?;
+    if !is(status, "% SZS status Unsatisfiable\n") {
+        return Err(lines.refusal(CertKind::Syntax));
+    }
+    let mut level = 0;
+    'levels: loop {
+        let raw = lines.take()?;
+        match read_level(alloc, raw, level)? {
+            Some(Level::Exhausted) => level += 1,
+            Some(Level::Proved) => return Ok(()),
+            None => return Err(lines.refusal(CertKind::Syntax)),
+        }
+    }
 }

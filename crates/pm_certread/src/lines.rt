@@ -48,6 +48,16 @@ impl<'a> Lines<'a> {
         Ok(line)
     }
 
+    /// The refusal of the line that was taken last.
+    pub fn refusal(&self, kind: CertKind) -> CertError
+        ensures { result ≡ At self.now.taken kind }
+    {
+        CertError::At {
+            line: self.taken,
+            kind,
+        }
+    }
+
     /// How many lines are left.
     pub fn count(&self) -> u64
         ensures { result ≡ length (cut_lines self.now.rest.now) }
