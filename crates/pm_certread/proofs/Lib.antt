@@ -6,3 +6,4 @@ pub mod FormLemmas
 pub mod LevelLemmas
 pub mod HeaderLemmas
 pub mod ProgressLemmas
+pub mod TermLemmas

@@ -5,11 +5,14 @@ use Rattle.pm_certread.specs.declared.error.CertKind.{CertKind}
 use Rattle.pm_certread.specs.declared.error.CertKind.TheVariants.{Syntax}
 use Rattle.pm_certread.specs.declared.error.CertError.{CertError}
 use Rattle.pm_certread.specs.declared.error.CertError.TheVariants.{At, Memory}
+use Rattle.pm_certread.specs.declared.fault.Fault.{Fault}
+use Rattle.pm_certread.specs.declared.fault.Fault.TheVariants as faults
 use Rattle.pm_certread.specs.declared.lines.Lines.{Lines}
 use Rattle.pm_certread.specs.Lines.{cut_lines}
 use Rattle.pm_certread.specs.Certificate.{Certificate}
 use Rattle.pm_certread.specs.Reading.{Stage, Outcome, accepted, refused, Leads, Offends, Ends, ReadsFrom}
 use Rattle.pm_certread.specs.Inside.Progress.{Comes, Continues, RefusesFrom}
+use Rattle.pm_certread.specs.Inside.Terms.{IsFault, error_at}
 
 -- these lines are a line and what is left
 pub record Takes (old new : Lines) (raw : List ℕ) : Type 0 where
@@ -45,3 +48,12 @@ missing over stage old error none is =
 pub refuses_before : (over : Problem) (stage next : Stage) (old new : Lines) (error : CertError) → Continues over stage old next new → RefusesFrom over next new error → RefusesFrom over stage old error
 refuses_before over stage next old new (At line kind) on bad = on (refused line kind) bad
 refuses_before over stage next old new Memory on bad = tt
+
+-- what is wrong with a line refuses the lines before it
+pub fault_refuses : (over : Problem) (stage : Stage) (old new : Lines) (raw : List ℕ) (offends : CertKind → Type 0) (fault : Fault) (error : CertError) → Takes old new raw
+    → ((kind : CertKind) → offends kind → Offends over (length (cut_lines new.rest.now)) stage raw kind) → IsFault offends fault → error ≡ error_at new.taken fault → RefusesFrom over stage old error
+fault_refuses over stage old new raw offends fault error takes lifts bad is = subst (RefusesFrom over stage old) (sym is) (go fault bad)
+  where
+    go : (f : Fault) → IsFault offends f → RefusesFrom over stage old (error_at new.taken f)
+    go (faults.Kind kind) h = offends_here over stage old new raw kind takes (lifts kind h)
+    go faults.Memory h = tt

@@ -4,3 +4,4 @@ pub mod Cuts
 pub mod Wholes
 pub mod Head
 pub mod Progress
+pub mod Terms

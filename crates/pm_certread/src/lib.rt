@@ -1,11 +1,14 @@
 //! Reading certificates: documents that list a closed tableau, line by line.
 #![tactic(auto)]
 
+mod application;
 mod cert;
 mod error;
+mod fault;
 mod header;
 mod levels;
 mod lines;
+mod terms;
 mod words;
 
 pub use cert::Cert;

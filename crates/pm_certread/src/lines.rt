@@ -4,8 +4,10 @@ ghost use Rattle.pm_certread.specs.Lines.{cut_lines};
 ghost use Rattle.pm_certread.specs.declared.error.CertError.TheVariants.{At};
 ghost use Rattle.pm_certread.specs.declared.error.CertKind.TheVariants.{Syntax};
 ghost use Rattle.pm_certread.specs.Inside.Cuts.{line_length};
+ghost use Rattle.pm_certread.specs.Inside.Terms.{error_at};
 
 use crate::error::{CertError, CertKind};
+use crate::fault::Fault;
 
 /// What is left of a document, and how many lines were taken from it.
 #[derive(Drop)]
@@ -55,6 +57,16 @@ impl<'a> Lines<'a> {
         CertError::At {
             line: self.taken,
             kind,
+        }
+    }
+
+    /// The error of a fault of the line that was taken last.
+    pub fn error(&self, fault: Fault) -> CertError
+        ensures { result ≡ error_at self.now.taken fault }
+    {
+        match fault {
+            Fault::Kind(kind) => self.refusal(kind),
+            Fault::Memory => CertError::Memory,
         }
     }
 
