@@ -7,3 +7,4 @@ pub mod LevelLemmas
 pub mod HeaderLemmas
 pub mod ProgressLemmas
 pub mod TermLemmas
+pub mod NodeLemmas

@@ -5,3 +5,4 @@ pub mod Wholes
 pub mod Head
 pub mod Progress
 pub mod Terms
+pub mod Nodes

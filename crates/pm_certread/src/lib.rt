@@ -8,6 +8,9 @@ mod fault;
 mod header;
 mod levels;
 mod lines;
+mod node_line;
+mod nodes;
+mod root;
 mod terms;
 mod words;
 

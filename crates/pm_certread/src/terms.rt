@@ -1,5 +1,5 @@
 //! The term lines.
-ghost use Rattle.std.specs.Prelude.{◌≡◌, ◌<◌, ◌≤◌, ◌↔◌, ℕ, All, IfOk, IfErr, IsTrue, OnOk, length};
+ghost use Rattle.std.specs.Prelude.{◌≡◌, ◌+◌, ◌<◌, ◌↔◌, ℕ, All, IfOk, IfErr, IsTrue, OnOk, length};
 ghost use Rattle.pm_certread.specs.Lines.{Header};
 ghost use Rattle.pm_certread.specs.Reading.{AddsApplication, AddsVariable, AreThere, GivesTerm, Head, TermOffends, no_terms, terms};
 ghost use Rattle.pm_certread.specs.Inside.Head.{header_of};
@@ -39,6 +39,8 @@ impl TermRows {
         requires { AreRows self.old }
         ensures added { OnOk result (AddsVariable (lines_of self.old) (lines_of self.new)) }
         ensures rows { OnOk result (AreRows self.new) }
+        ensures count { OnOk result
+            (length self.new.rows.items ≡ length self.old.rows.items + 1) }
     {
         let row = self.table.add_var()?;
         self.rows.push(row)?;
@@ -57,6 +59,8 @@ impl TermRows {
         ensures added { OnOk result
             (AddsApplication (lines_of self.old) (lines_of self.new) symbol numbers.now) }
         ensures rows { OnOk result (AreRows self.new) }
+        ensures count { OnOk result
+            (length self.new.rows.items ≡ length self.old.rows.items + 1) }
     {
         let args = rows_at(alloc, &self.rows, numbers)?;
         let row = self.table.add_app(symbol, &args)?;
@@ -100,6 +104,8 @@ fn read_term(
     ensures ok { OnOk result
         (GivesTerm symbols.now (lines_of given.old) raw.now (lines_of given.new)) }
     ensures rows { OnOk result (AreRows given.new) }
+    ensures count { OnOk result
+        (length given.new.rows.items ≡ length given.old.rows.items + 1) }
     ensures err { IfErr result (IsFault (TermOffends symbols.now (lines_of given.old) raw.now)) }
 {
     if is(raw, "?\n") {
@@ -132,7 +138,8 @@ pub fn read_terms(
         Continues problem.now (terms head no_terms) lines.old
         (terms head (lines_of given)) lines.new) }
     ensures rows { IfOk result AreRows }
-    ensures all { IfOk result (λ given. header.now.terms ≤ length given.rows.items) }
+    ensures all { IfOk result (λ given. header.now.terms ≡ length given.rows.items) }
+    ensures taken { OnOk result (lines.new.taken ≡ lines.old.taken + header.now.terms) }
     ensures err { IfErr result (λ error. (line : ℕ)
         → let head : Head = record { header = header_of header.now; line = line } in
         RefusesFrom problem.now (terms head no_terms) lines.old error) }

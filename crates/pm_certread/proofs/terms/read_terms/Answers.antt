@@ -19,7 +19,7 @@ terms-preserved c = (c.in-Ok.ensures.rows, λ line outcome later.
     c.terms.invariant.1 line outcome
     (leads_on c.args.problem.now (terms head old) (terms head new) c.terms.lines c.take.new.self c.in_ok-raw.raw.now
         (record { cut = c.in_ok-raw.ensures.ok; count = c.in_ok-raw.ensures.taken })
-        (inl (more c.terms.given.table c.terms.given.rows.items c.args.header.now.terms (omega (arith, c.len.ensures)), new, subst (λ (symbols : List Symbol). GivesTerm symbols old c.in_ok-raw.raw.now new) c.symbols.ensures c.in-Ok.ensures.ok, refl)) outcome later))
+        (inl (more c.terms.given.table c.terms.given.rows.items c.args.header.now.terms (omega (arith, c.len.ensures)), new, subst (λ (symbols : List Symbol). GivesTerm symbols old c.in_ok-raw.raw.now new) c.symbols.ensures c.in-Ok.ensures.ok, refl)) outcome later), omega (arith, c.len.ensures, c.in-Ok.ensures.count), omega (arith, c.in-Ok.ensures.count, c.in_ok-raw.ensures.taken))
 
 pub returns-in-Err-clause-err : goal.returns-in-Err-clause-err
 returns-in-Err-clause-err c line =
