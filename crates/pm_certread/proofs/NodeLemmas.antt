@@ -1,18 +1,23 @@
 -- The lines of nodes and of the root, and the nodes that they give.
-use Rattle.std.proofs.Common.{◌≡◌, ◌≢◌, ◌∙◌, ◌<◌, ◌≤◌, ◌⊎◌, inl, inr, ℕ, zero, suc, ◌+◌, ◌-◌, Bool, true, false, List, [], ◌∷◌, ◌++◌, length, map, take, drop, get_or, Option, Some, None, Bor, Result, Ok, Err, IfOk, codes, decimal, string_bytes, sym, ap, refl, subst, arith, length-append}
-use Rattle.std.specs.List.{All}
+use Rattle.std.proofs.Common.{◌≡◌, ◌≢◌, ◌∙◌, ◌<◌, ◌≤◌, ◌⊎◌, inl, inr, ℕ, zero, suc, ◌+◌, ◌-◌, Bool, true, false, List, [], ◌∷◌, ◌++◌, length, map, take, drop, get_or, Option, Some, None, Bor, Result, Ok, Err, IfOk, codes, decimal, string_bytes, sym, ap, refl, subst, arith, length-append, true≢false}
+use Rattle.std.specs.List.{All, Contains}
+use Rattle.std.specs.Prelude.{slice_get}
+use Rattle.std.proofs.lemmas.Option.{slice_get_within, get_or_from_slice_get}
 use Rattle.std.proofs.lemmas.List.{take-map, drop-map, length-map}
 use Rattle.std.proofs.Math.Seq.{take-append_seam, drop-append_seam}
+use Rattle.pm_logic.specs.declared.symbols.Kind.{Kind}
+use Rattle.pm_logic.specs.declared.tableau.NodeKind.{NodeKind}
+use Rattle.pm_logic.specs.Term.{Term, tree_at}
 use Rattle.pm_logic.specs.Problem.{Symbol}
 use Rattle.pm_logic.specs.Tableau.{Entry, deepest_next, deepest_after}
 use Rattle.pm_certread.specs.declared.node_line.NodeLine.{NodeLine as CodeLine}
 use Rattle.pm_certread.specs.Lines.{ended, spaced, root_line, Ending, closed_by, extended_by, ending_words, NodeLine, node_line, sign_word}
 use Rattle.pm_certread.specs.Forms.{IsNumber, IsRoot, IsNode, ending_number}
-use Rattle.pm_certread.specs.Reading.{NodeLines}
+use Rattle.pm_certread.specs.Reading.{NodeLines, AreThere}
 use Rattle.pm_certread.specs.Inside.Cuts.{IsCut, bytes_of}
 use Rattle.pm_certread.specs.Inside.Wholes.{AreWhole, IsWhole}
 use Rattle.pm_certread.specs.Inside.Terms.{ReadsRoot, IsRootLine}
-use Rattle.pm_certread.specs.Inside.Nodes.{AreNode, ReadsNode, IsNodeLine, front_words, line_of}
+use Rattle.pm_certread.specs.Inside.Nodes.{AreNode, ReadsNode, IsNodeLine, front_words, line_of, symbol_of}
 use Rattle.pm_certread.proofs.WordLemmas.{solid_whole, decimal_whole, symbol_whole, decimals_whole, whole_append}
 use Rattle.pm_certread.proofs.FormLemmas.{cut_is, is_cut}
 
@@ -116,3 +121,41 @@ deepest_push (d ∷ f ∷ before) e = deepest_push (f ∷ before) e
 
 pub deepest_grows : (before after : List Entry) (e : Entry) → after ≡ before ++ e ∷ [] → deepest_next after ≡ deepest_after e.kind e.depth
 deepest_grows before after e grown = ap deepest_next grown ∙ deepest_push before e
+
+abbrev pub entry_with : ℕ → Bool → ℕ → List Term → NodeKind → Entry
+entry_with depth positive predicate args kind =
+    record { depth = depth; literal = record { positive = positive; predicate = predicate; args = args }; kind = kind }
+
+pub entry_pushed : (before after : List Entry) (depth predicate : ℕ) (positive : Bool) (args terms : List Term) (kind other : NodeKind) → args ≡ terms → kind ≡ other
+    → after ≡ before ++ entry_with depth positive predicate args kind ∷ [] → after ≡ before ++ entry_with depth positive predicate terms other ∷ []
+entry_pushed before after depth predicate positive args terms kind other same same_kind grown =
+    grown
+    ∙ ap (λ (ts : List Term). before ++ entry_with depth positive predicate ts kind ∷ []) same
+    ∙ ap (λ (k : NodeKind). before ++ entry_with depth positive predicate terms k ∷ []) same_kind
+
+-- ---- what a node's line is refused for
+
+pub some_line : (raw : List ℕ) (o : Option CodeLine) (line : CodeLine) → IsNodeLine raw o → o ≡ Some line → IsNode raw (line_of line)
+some_line raw o line h is = subst (IsNodeLine raw) is h
+
+pub are_there : (terms : List Term) (rows numbers found : List ℕ) → found ≡ numbers → All (λ n. n < length rows) found → AreThere (map (tree_at terms) rows) numbers
+are_there terms rows numbers found same h =
+    subst (λ (count : ℕ). All (λ n. n < count) numbers) (sym (length-map rows (tree_at terms)))
+    (subst (All (λ n. n < length rows)) same h)
+
+pub are_below : (terms : List Term) (rows numbers found : List ℕ) → found ≡ numbers → AreThere (map (tree_at terms) rows) numbers → All (λ n. n < length rows) found
+are_below terms rows numbers found same h =
+    subst (All (λ n. n < length rows)) (sym same)
+    (subst (λ (count : ℕ). All (λ n. n < count) numbers) (length-map rows (tree_at terms)) h)
+
+pub has_symbol : (symbols all : List Symbol) (predicate : ℕ) (text bytes : List ℕ) (count arity : ℕ) (kind : Kind) → symbols ≡ all → text ≡ bytes → count ≡ arity
+    → slice_get symbols predicate ≡ Some (symbol_of kind text count) → Contains all (symbol_of kind bytes arity)
+has_symbol symbols all predicate text bytes count arity kind same same_text same_count there =
+    let symbol = symbol_of kind bytes arity in
+    let found : slice_get all predicate ≡ Some symbol =
+    ap (λ (s : List Symbol). slice_get s predicate) (sym same) ∙ there
+    ∙ ap (λ (t : List ℕ). Some (symbol_of kind t count)) same_text ∙ ap (λ (n : ℕ). Some (symbol_of kind bytes n)) same_count in
+    (predicate, slice_get_within all predicate symbol found, get_or_from_slice_get all predicate symbol symbol found)
+
+pub no_truth : false ≡ true → ⊥
+no_truth e = true≢false (sym e)
