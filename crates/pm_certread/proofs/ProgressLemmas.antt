@@ -1,5 +1,5 @@
 -- How a line bears on the lines before it.
-use Rattle.std.proofs.Common.{◌≡◌, ◌∙◌, ◌+◌, inl, inr, ℕ, List, [], ◌∷◌, length, sym, ap, subst, refl}
+use Rattle.std.proofs.Common.{Result, Ok, Err, ◌≡◌, ◌∙◌, ◌+◌, inl, inr, ℕ, List, [], ◌∷◌, length, sym, ap, subst, refl}
 use Rattle.pm_logic.specs.Problem.{Problem}
 use Rattle.pm_certread.specs.declared.error.CertKind.{CertKind}
 use Rattle.pm_certread.specs.declared.error.CertKind.TheVariants.{Syntax}
@@ -10,8 +10,10 @@ use Rattle.pm_certread.specs.declared.fault.Fault.TheVariants as faults
 use Rattle.pm_certread.specs.declared.lines.Lines.{Lines}
 use Rattle.pm_certread.specs.Lines.{cut_lines}
 use Rattle.pm_certread.specs.Certificate.{Certificate}
-use Rattle.pm_certread.specs.Reading.{Stage, Outcome, accepted, refused, Leads, Offends, Ends, ReadsFrom}
+use Rattle.std.specs.Result.{IfErr, IsErrAnd}
+use Rattle.pm_certread.specs.Reading.{opening, Stage, Outcome, accepted, refused, Leads, Offends, Ends, ReadsFrom}
 use Rattle.pm_certread.specs.Inside.Progress.{Comes, Continues, RefusesFrom}
+use Rattle.pm_certread.specs.Refusals.{Refuses}
 use Rattle.pm_certread.specs.Inside.Terms.{IsFault, error_at}
 
 -- these lines are a line and what is left
@@ -57,3 +59,16 @@ fault_refuses over stage old new raw offends fault error takes lifts bad is = su
     go : (f : Fault) → IsFault offends f → RefusesFrom over stage old (error_at new.taken f)
     go (faults.Kind kind) h = offends_here over stage old new raw kind takes (lifts kind h)
     go faults.Memory h = tt
+
+-- ---- the whole document
+
+-- an error that goes on unchanged
+pub goes_on : {T E : Type 0} (r : Result T E) (e : E) (P : E → Type 0) → IsErrAnd r (λ x. x ≡ e) → P e → IfErr r P
+goes_on {E = E} (Ok x) e P is h = tt
+goes_on {E = E} (Err x) e P is h = subst P (sym is) h
+
+pub from_start : (over : Problem) (lines : Lines) (bytes : List ℕ) (error : CertError) → lines.rest.now ≡ bytes → lines.taken ≡ 0 → RefusesFrom over opening lines error → Refuses over bytes error
+from_start over lines bytes (At line kind) same none h =
+    subst (λ (n : ℕ). ReadsFrom over opening n (cut_lines bytes) (refused line kind)) none
+    (subst (λ (bs : List ℕ). ReadsFrom over opening lines.taken (cut_lines bs) (refused line kind)) same h)
+from_start over lines bytes Memory same none h = tt

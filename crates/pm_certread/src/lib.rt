@@ -10,9 +10,11 @@ mod levels;
 mod lines;
 mod node_line;
 mod nodes;
+mod read;
 mod root;
 mod terms;
 mod words;
 
 pub use cert::Cert;
 pub use error::{CertError, CertKind};
+pub use read::read_cert;

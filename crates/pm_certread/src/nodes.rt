@@ -7,7 +7,7 @@ ghost use Rattle.pm_certread.specs.Forms.{IsNode};
 ghost use Rattle.pm_certread.specs.Reading.{ClosesAbove, GivesNode, HasClause, Head, IsInOrder, NodeLineOffends, closer_of, entry_of, kind_of, no_nodes, nodes, with_node};
 ghost use Rattle.pm_certread.specs.Inside.Head.{header_of};
 ghost use Rattle.pm_certread.specs.Inside.Progress.{Continues, RefusesFrom};
-ghost use Rattle.pm_certread.specs.Inside.Terms.{IsFault, lines_of};
+ghost use Rattle.pm_certread.specs.Inside.Terms.{AreRows, IsFault, lines_of};
 ghost use Rattle.pm_certread.specs.Inside.Nodes.{HasSmallClause, IsDeepest, ending_of, line_of, nodes_of};
 
 use crate::application::find_symbol;
@@ -190,4 +190,36 @@ fn read_node(
     }
     given.add(alloc, rows, &line, predicate)?;
     Ok(())
+}
+
+/// Takes the node lines, after the term lines and the root's line.
+pub fn read_nodes(
+    alloc: Global,
+    problem: &Problem,
+    header: &Header,
+    given: TermRows,
+    root: u32,
+    lines: &mut Lines,
+) -> Result<NodeRows, CertError>
+    requires { AreRows given }
+    ensures ok { IfOk result (λ all. (line : ℕ)
+        → let head : Head = record { header = header_of header.now; line = line } in
+        Continues problem.now (nodes head (lines_of given) (no_nodes root)) lines.old
+        (nodes head (lines_of given) (nodes_of all)) lines.new) }
+    ensures terms { IfOk result (λ all. all.tableau.terms ≡ given.table) }
+    ensures all { IfOk result (λ all. header.now.nodes ≤ length (nodes_of all).entries) }
+    ensures err { IfErr result (λ error. (line : ℕ)
+        → let head : Head = record { header = header_of header.now; line = line } in
+        RefusesFrom problem.now (nodes head (lines_of given) (no_nodes root)) lines.old error) }
+{
+    let TermRows { table, rows } = given;
+    let mut all = NodeRows::new(alloc, table, root);
+    'nodes: while (all.tableau.nodes().len() as u64) < header.nodes {
+        let raw = lines.take()?;
+        match read_node(alloc, problem, &rows, raw, &mut all) {
+            Ok(()) => {}
+            Err(fault) => return Err(lines.error(fault)),
+        }
+    }
+    Ok(all)
 }
