@@ -8,3 +8,4 @@ pub mod HeaderLemmas
 pub mod ProgressLemmas
 pub mod TermLemmas
 pub mod NodeLemmas
+pub mod OverLemmas

@@ -4,4 +4,5 @@ pub mod Certificate
 pub mod Reading
 pub mod Kinds
 pub mod Refusals
+pub mod Laws
 pub mod Inside

@@ -6,6 +6,7 @@ mod cert;
 mod error;
 mod fault;
 mod header;
+mod laws;
 mod levels;
 mod lines;
 mod node_line;
@@ -17,4 +18,5 @@ mod words;
 
 pub use cert::Cert;
 pub use error::{CertError, CertKind};
+pub use laws::certificates_are_over_problems;
 pub use read::read_cert;
