@@ -41,19 +41,19 @@ front_whole version class start =
 back_whole : (terms nodes : ℕ) → IsNumber terms → IsNumber nodes → AreWhole (back_words terms nodes)
 back_whole terms nodes small few = (solid_whole (codes "terms") refl, (decimal_whole terms small, (solid_whole (codes "nodes") refl, (decimal_whole nodes few, tt))))
 
-depth_whole : (size : ℕ) → IsNumber size → AreWhole (depth_words size)
+pub depth_whole : (size : ℕ) → IsNumber size → AreWhole (depth_words size)
 depth_whole size small = (solid_whole (codes "depth") refl, (decimal_whole size small, tt))
 
-bounded_whole : (bound : BoundKind) (size : ℕ) → IsNumber size → AreWhole (bounded_words bound size)
+pub bounded_whole : (bound : BoundKind) (size : ℕ) → IsNumber size → AreWhole (bounded_words bound size)
 bounded_whole bound size small = (solid_whole (codes "bound") refl, (bound_whole bound, (solid_whole (codes "size") refl, (decimal_whole size small, tt))))
 
-header_whole : (version : Version) (middle : List (List ℕ)) (h : Header) → AreWhole middle → IsNumber h.terms → IsNumber h.nodes
+pub header_whole : (version : Version) (middle : List (List ℕ)) (h : Header) → AreWhole middle → IsNumber h.terms → IsNumber h.nodes
     → AreWhole (front_words version h.class h.start ++ (middle ++ back_words h.terms h.nodes))
 header_whole version middle h whole small few =
     whole_append (front_words version h.class h.start) (middle ++ back_words h.terms h.nodes) (front_whole version h.class h.start)
     (whole_append middle (back_words h.terms h.nodes) whole (back_whole h.terms h.nodes small few))
 
-header_words : (raw : List ℕ) (words : List (Bor (List ℕ))) (h : Header) → IsCut raw (Some words) → IsHeader raw h → AreHeader (bytes_of words) h
+pub header_words : (raw : List ℕ) (words : List (Bor (List ℕ))) (h : Header) → IsCut raw (Some words) → IsHeader raw h → AreHeader (bytes_of words) h
 header_words raw words h cut is = go is.is
   where
     go : ((h.bound ≡ Depth) × (raw ≡ ended (header_line_1 h))) ⊎ (raw ≡ ended (header_line_2 h)) → AreHeader (bytes_of words) h

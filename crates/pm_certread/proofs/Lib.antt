@@ -9,3 +9,4 @@ pub mod ProgressLemmas
 pub mod TermLemmas
 pub mod NodeLemmas
 pub mod OverLemmas
+pub mod SameLines

@@ -38,7 +38,7 @@ ending_whole : (ending : Ending) → IsNumber (ending_number ending) → AreWhol
 ending_whole (closed_by depth) small = (solid_whole (codes "close") refl, (decimal_whole depth small, tt))
 ending_whole (extended_by clause) small = (solid_whole (codes "extend") refl, (decimal_whole clause small, tt))
 
-node_whole : (node : NodeLine) → IsNumber node.depth → All IsNumber node.numbers → IsNumber (ending_number node.ending)
+pub node_whole : (node : NodeLine) → IsNumber node.depth → All IsNumber node.numbers → IsNumber (ending_number node.ending)
     → AreWhole (front_words node.depth node.positive node.symbol.kind node.symbol.text ++ (map decimal node.numbers ++ ending_words node.ending))
 node_whole node small numbers last =
     (decimal_whole node.depth small, (sign_whole node.positive, (symbol_whole node.symbol,

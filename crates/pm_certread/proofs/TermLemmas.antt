@@ -105,7 +105,7 @@ below_all bound numbers i le h = subst (All (λ n. n < bound)) (take_all i numbe
 
 -- ---- lines of applications
 
-function_word : (symbol : Symbol) → symbol.kind ≡ Function → written_symbol symbol ≡ written_word symbol.text
+pub function_word : (symbol : Symbol) → symbol.kind ≡ Function → written_symbol symbol ≡ written_word symbol.text
 function_word symbol is = ap (λ k. written_as k symbol.text) is
 
 application_line_is : (raw : List ℕ) (words : List (Bor (List ℕ))) (o : Option Application) → IsCut raw (Some words) → ReadsApplication (bytes_of words) o → IsApplicationLine raw o
