@@ -10,3 +10,4 @@ pub mod TermLemmas
 pub mod NodeLemmas
 pub mod OverLemmas
 pub mod SameLines
+pub mod DeterminedLemmas

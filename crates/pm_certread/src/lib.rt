@@ -18,5 +18,5 @@ mod words;
 
 pub use cert::Cert;
 pub use error::{CertError, CertKind};
-pub use laws::certificates_are_over_problems;
+pub use laws::{certificates_are_over_problems, readings_are_determined};
 pub use read::read_cert;
