@@ -1,7 +1,7 @@
 -- Bytes have one reading.
-use Rattle.std.proofs.Common.{◌≡◌, ◌≢◌, ◌∙◌, ◌<◌, ◌≤◌, ◌⊎◌, inl, inr, ℕ, zero, suc, ◌+◌, List, [], ◌∷◌, ◌++◌, length, map, Some, sym, ap, refl, subst, arith}
+use Rattle.std.proofs.Common.{◌≡◌, ◌∙◌, ◌<◌, ◌⊎◌, inl, inr, ℕ, ◌+◌, List, [], ◌∷◌, ◌++◌, length, map, Some, sym, ap, refl, subst, arith}
 use Rattle.std.specs.Prelude.{slice_get}
-use Rattle.std.specs.List.{All, Contains}
+use Rattle.std.specs.List.{Contains}
 use Rattle.std.proofs.lemmas.Option.{slice_get_within, get_or_from_slice_get}
 use Rattle.pm_logic.specs.declared.problem.Class.{Class}
 use Rattle.pm_logic.specs.declared.problem.Start.{Start}
@@ -10,14 +10,14 @@ use Rattle.pm_logic.specs.Lists.{AreDistinct}
 use Rattle.pm_logic.specs.Term.{Term, app, as_terms, tree_at}
 use Rattle.pm_logic.specs.Table.{Adds}
 use Rattle.pm_logic.specs.Problem.{Symbol, Problem}
-use Rattle.pm_logic.specs.Tableau.{Entry, Tableau, TableauWithTerms}
+use Rattle.pm_logic.specs.Tableau.{Tableau}
 use Rattle.pm_logic.proofs.Tableaux.{determined}
 use Rattle.pm_certread.specs.declared.error.CertKind.{CertKind}
 use Rattle.pm_certread.specs.declared.error.CertKind.TheVariants.{Syntax, TermRange, UnknownSymbol, ClauseRange, DepthOrder, Counts}
-use Rattle.pm_certread.specs.Lines.{cut_lines, ended, status_line, variable_line, end_line, Header, NodeLine}
-use Rattle.pm_certread.specs.Forms.{IsExhausted, IsProved, IsHeader, IsApplication, IsRoot, IsNode}
+use Rattle.pm_certread.specs.Lines.{cut_lines, Header, NodeLine}
+use Rattle.pm_certread.specs.Forms.{IsApplication, IsRoot, IsNode}
 use Rattle.pm_certread.specs.Certificate.{Certificate}
-use Rattle.pm_certread.specs.Reading.{Stage, opening, levels, heading, terms, nodes, Head, TermLines, NodeLines, no_terms, no_nodes, GivesTerm, AddsVariable, AddsApplication, AreThere, TermOffends, RootOffends, GivesNode, NodeOffends, NodeLineOffends, entry_of, closer_of, with_node, Leads, Offends, Ends, IsCertificateOf, Outcome, accepted, refused, ReadsFrom}
+use Rattle.pm_certread.specs.Reading.{Stage, opening, levels, heading, terms, nodes, Head, TermLines, NodeLines, no_terms, no_nodes, GivesTerm, AddsApplication, AreThere, TermOffends, RootOffends, GivesNode, NodeOffends, NodeLineOffends, entry_of, closer_of, with_node, Leads, Offends, Ends, IsCertificateOf, Outcome, accepted, refused, ReadsFrom}
 use Rattle.pm_certread.specs.Laws.{ReadingsAreDetermined}
 use Rattle.pm_certread.proofs.SameLines.{not_both_levels, same_header, no_application, same_application, same_root, same_node}
 

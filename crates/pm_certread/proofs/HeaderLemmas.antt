@@ -1,5 +1,5 @@
 -- The lines of headers.
-use Rattle.std.proofs.Common.{◌≡◌, ◌≢◌, ◌∙◌, ◌^◌, ◌<◌, ◌⊎◌, inl, inr, ℕ, List, [], ◌∷◌, ◌++◌, Option, Some, None, Bor, sym, ap, refl, codes, decimal}
+use Rattle.std.proofs.Common.{◌≡◌, ◌∙◌, ◌⊎◌, inl, inr, ℕ, List, ◌++◌, Option, Some, None, Bor, ap, refl, codes}
 use Rattle.pm_logic.specs.declared.problem.Class.{Class}
 use Rattle.pm_logic.specs.declared.problem.Class.TheVariants.{Plain, Regular}
 use Rattle.pm_logic.specs.declared.problem.Start.{Start}
@@ -9,7 +9,7 @@ use Rattle.pm_logic.specs.declared.tableau.BoundKind.TheVariants.{Depth, Inferen
 use Rattle.pm_certread.specs.declared.header.Header.{Header as CodeHeader}
 use Rattle.pm_certread.specs.declared.header.Version.{Version}
 use Rattle.pm_certread.specs.declared.header.Version.TheVariants.{First, Second}
-use Rattle.pm_certread.specs.Lines.{Header, ended, spaced, class_word, start_word, bound_word, header_line_1, header_line_2}
+use Rattle.pm_certread.specs.Lines.{Header, ended, class_word, start_word, bound_word, header_line_1, header_line_2}
 use Rattle.pm_certread.specs.Forms.{IsNumber, IsHeader}
 use Rattle.pm_certread.specs.Inside.Wholes.{AreWhole, IsWhole}
 use Rattle.pm_certread.specs.Inside.Cuts.{IsCut, bytes_of}

@@ -1,5 +1,5 @@
 -- The lines of levels.
-use Rattle.std.proofs.Common.{◌≡◌, ◌≢◌, ◌∙◌, ◌^◌, ◌<◌, ◌⊎◌, inl, inr, ℕ, List, [], ◌∷◌, Option, Some, None, Bor, sym, ap, refl, codes, decimal}
+use Rattle.std.proofs.Common.{◌≡◌, ◌≢◌, ◌∙◌, ◌⊎◌, inl, inr, ℕ, List, Some, None, Bor, sym, refl, codes, decimal}
 use Rattle.std.proofs.lemmas.Fmt.{decimal_injective}
 use Rattle.pm_certread.specs.declared.levels.Level.{Level}
 use Rattle.pm_certread.specs.declared.levels.Level.TheVariants.{Exhausted, Proved}

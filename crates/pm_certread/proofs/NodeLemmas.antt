@@ -1,5 +1,5 @@
 -- The lines of nodes and of the root, and the nodes that they give.
-use Rattle.std.proofs.Common.{◌≡◌, ◌≢◌, ◌∙◌, ◌<◌, ◌≤◌, ◌⊎◌, inl, inr, ℕ, zero, suc, ◌+◌, ◌-◌, Bool, true, false, List, [], ◌∷◌, ◌++◌, length, map, take, drop, get_or, Option, Some, None, Bor, Result, Ok, Err, IfOk, codes, decimal, string_bytes, sym, ap, refl, subst, arith, length-append, true≢false}
+use Rattle.std.proofs.Common.{◌≡◌, ◌∙◌, ◌<◌, ℕ, ◌-◌, Bool, true, false, List, [], ◌∷◌, ◌++◌, length, map, take, drop, Option, Some, None, Bor, Result, Ok, Err, IfOk, codes, decimal, sym, ap, refl, subst, arith, length-append, true≢false}
 use Rattle.std.specs.List.{All, Contains}
 use Rattle.std.specs.Prelude.{slice_get}
 use Rattle.std.proofs.lemmas.Option.{slice_get_within, get_or_from_slice_get}
@@ -11,8 +11,8 @@ use Rattle.pm_logic.specs.Term.{Term, tree_at}
 use Rattle.pm_logic.specs.Problem.{Symbol}
 use Rattle.pm_logic.specs.Tableau.{Entry, deepest_next, deepest_after}
 use Rattle.pm_certread.specs.declared.node_line.NodeLine.{NodeLine as CodeLine}
-use Rattle.pm_certread.specs.Lines.{ended, spaced, root_line, Ending, closed_by, extended_by, ending_words, NodeLine, node_line, sign_word}
-use Rattle.pm_certread.specs.Forms.{IsNumber, IsRoot, IsNode, ending_number}
+use Rattle.pm_certread.specs.Lines.{Ending, closed_by, extended_by, ending_words, NodeLine, sign_word}
+use Rattle.pm_certread.specs.Forms.{IsNumber, IsNode, ending_number}
 use Rattle.pm_certread.specs.Reading.{NodeLines, AreThere}
 use Rattle.pm_certread.specs.Inside.Cuts.{IsCut, bytes_of}
 use Rattle.pm_certread.specs.Inside.Wholes.{AreWhole, IsWhole}
@@ -40,9 +40,16 @@ ending_whole (extended_by clause) small = (solid_whole (codes "extend") refl, (d
 
 pub node_whole : (node : NodeLine) → IsNumber node.depth → All IsNumber node.numbers → IsNumber (ending_number node.ending)
     → AreWhole (front_words node.depth node.positive node.symbol.kind node.symbol.text ++ (map decimal node.numbers ++ ending_words node.ending))
-node_whole node small numbers last =
-    (decimal_whole node.depth small, (sign_whole node.positive, (symbol_whole node.symbol,
-        whole_append (map decimal node.numbers) (ending_words node.ending) (decimals_whole node.numbers numbers) (ending_whole node.ending last))))
+node_whole node small numbers last = (
+  decimal_whole node.depth small,
+  (
+    sign_whole node.positive,
+    (
+      symbol_whole node.symbol,
+      whole_append (map decimal node.numbers) (ending_words node.ending) (decimals_whole node.numbers numbers) (ending_whole node.ending last),
+    ),
+  ),
+)
 
 node_line_is : (raw : List ℕ) (words : List (Bor (List ℕ))) (o : Option CodeLine) → IsCut raw (Some words) → ReadsNode (bytes_of words) o → IsNodeLine raw o
 node_line_is raw words None cut none = λ node is.

@@ -1,5 +1,5 @@
 -- What lines give is over the problem.
-use Rattle.std.proofs.Common.{◌≡◌, ◌∙◌, ◌<◌, ◌≤◌, ◌⊎◌, inl, inr, ℕ, zero, suc, ◌+◌, List, [], ◌∷◌, ◌++◌, length, map, get_or, Some, sym, ap, refl, subst, arith}
+use Rattle.std.proofs.Common.{◌≡◌, ◌∙◌, ◌<◌, ◌≤◌, inl, inr, ℕ, zero, suc, ◌+◌, List, [], ◌∷◌, ◌++◌, length, map, get_or, Some, sym, ap, refl, subst, arith}
 use Rattle.std.specs.Prelude.{slice_get, IsSomeAnd}
 use Rattle.std.specs.List.{All, AllZip}
 use Rattle.std.proofs.lemmas.List.{length-map}
@@ -7,15 +7,15 @@ use Rattle.std.proofs.lemmas.List.Elements.{All-push}
 use Rattle.pm_logic.specs.declared.symbols.Kind.{Kind}
 use Rattle.pm_logic.specs.declared.symbols.Kind.TheVariants.{Predicate, Function, Equality}
 use Rattle.pm_logic.specs.Term.{Term, var, app, Terms, no_terms, more_terms, as_terms, list_of, tree_at}
-use Rattle.pm_logic.specs.Table.{Adds, variable_count}
-use Rattle.pm_logic.specs.Problem.{Symbol, Literal, Problem, HasShape, IsTermOver, AreTermsOver, IsLiteralOver}
+use Rattle.pm_logic.specs.Table.{variable_count}
+use Rattle.pm_logic.specs.Problem.{Symbol, Problem, HasShape, IsTermOver, AreTermsOver, IsLiteralOver}
 use Rattle.pm_logic.specs.Tableau.{Entry, preorder}
 use Rattle.pm_logic.proofs.TableLemmas.{list_of-as_terms}
 use Rattle.pm_certread.specs.declared.error.CertKind.{CertKind}
 use Rattle.pm_certread.specs.Lines.{cut_lines, Ending, closed_by, extended_by, NodeLine}
-use Rattle.pm_certread.specs.Forms.{IsApplication, IsNode, IsPredicate}
+use Rattle.pm_certread.specs.Forms.{IsNode, IsPredicate}
 use Rattle.pm_certread.specs.Certificate.{Certificate}
-use Rattle.pm_certread.specs.Reading.{Leads, Stage, opening, levels, heading, terms, nodes, Head, TermLines, NodeLines, no_terms as none_yet, no_nodes, GivesTerm, AddsVariable, AddsApplication, AreThere, GivesNode, IsInOrder, ClosesAbove, HasClause, entry_of, closer_of, kind_of, IsCertificateOf, Outcome, accepted, refused, ReadsFrom, Ends}
+use Rattle.pm_certread.specs.Reading.{Leads, Stage, opening, levels, heading, terms, nodes, TermLines, NodeLines, GivesTerm, AddsVariable, AddsApplication, AreThere, GivesNode, ClosesAbove, HasClause, entry_of, closer_of, kind_of, accepted, refused, ReadsFrom, Ends}
 use Rattle.pm_certread.specs.Laws.{IsOverProblem, IsCloserOf, HasClauseOf, CertificatesAreOverProblems}
 
 -- ---- terms over more variables
@@ -87,9 +87,10 @@ application_over symbols old new symbol numbers number is count there found adds
     ] in
     let arity : length (list_of (as_terms args)) ≡ length numbers = ap length (list_of-as_terms args) ∙ length-map numbers (tree_at old.each) in
     subst (λ (n : ℕ). All (IsTermOver symbols n) new.each) (sym same)
-    (push_over symbols vars old.each new.each (app number (as_terms args)) adds.each over
-        (has_shape symbols number symbol Function (length (list_of (as_terms args))) found is (count ∙ sym arity),
-        as_terms_over symbols vars old.each numbers over there))
+    (push_over symbols vars old.each new.each (app number (as_terms args)) adds.each over (
+      has_shape symbols number symbol Function (length (list_of (as_terms args))) found is (count ∙ sym arity),
+      as_terms_over symbols vars old.each numbers over there,
+    ))
 
 term_over : (symbols : List Symbol) (old new : TermLines) (raw : List ℕ) → GivesTerm symbols old raw new → Are symbols old → Are symbols new
 term_over symbols old new raw (inl gives) over = variable_over symbols old new gives.1 over
@@ -183,13 +184,16 @@ leads_over over before after (levels level) next raw leads fits = elim leads.1 [
 ]
 leads_over over before after heading next raw leads fits = subst (Fits over) (sym leads.3) (λ k d lt. absurd (omega arith))
 leads_over over before after (terms head given) next raw (inl (lt, new, gives, is)) fits = subst (Fits over) (sym is) (term_over over.symbols given new raw gives fits)
-leads_over over before after (terms head given) next raw (inr (le, clause, root, within, is)) fits = subst (Fits over) (sym is) (fits, record {
-  root = within;
-  depths = λ k d lt. absurd (omega arith);
-  clauses = λ k d lt. absurd (omega arith);
-  closers = tt;
-  literals = λ k d lt. absurd (omega arith);
-})
+leads_over over before after (terms head given) next raw (inr (le, clause, root, within, is)) fits = subst (Fits over) (sym is) (
+  fits,
+  record {
+    root = within;
+    depths = λ k d lt. absurd (omega arith);
+    clauses = λ k d lt. absurd (omega arith);
+    closers = tt;
+    literals = λ k d lt. absurd (omega arith);
+  },
+)
 leads_over over before after (nodes head given old) next raw (lt, node, predicate, new, is, gives, next_is) fits =
     subst (Fits over) (sym next_is) (fits.0, node_over over given old new raw node predicate is gives fits.0 fits.1)
 

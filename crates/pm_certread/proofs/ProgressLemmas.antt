@@ -1,5 +1,5 @@
 -- How a line bears on the lines before it.
-use Rattle.std.proofs.Common.{Result, Ok, Err, ◌≡◌, ◌∙◌, ◌+◌, inl, inr, ℕ, List, [], ◌∷◌, length, sym, ap, subst, refl}
+use Rattle.std.proofs.Common.{Result, Ok, Err, ◌≡◌, ◌+◌, inl, inr, ℕ, List, [], ◌∷◌, length, sym, ap, subst, refl}
 use Rattle.pm_logic.specs.Problem.{Problem}
 use Rattle.pm_certread.specs.declared.error.CertKind.{CertKind}
 use Rattle.pm_certread.specs.declared.error.CertKind.TheVariants.{Syntax}

@@ -1,7 +1,6 @@
 -- A line has one form and one content.
-use Rattle.std.proofs.Common.{◌≡◌, ◌≢◌, ◌∙◌, ◌<◌, ◌≤◌, ◌⊎◌, inl, inr, ℕ, zero, suc, ◌+◌, Bool, true, false, List, [], ◌∷◌, ◌++◌, length, map, get_or, codes, decimal, sym, ap, refl, subst, arith, length-append}
+use Rattle.std.proofs.Common.{◌≡◌, ◌≢◌, ◌∙◌, ◌⊎◌, inl, inr, ℕ, suc, Bool, true, false, List, [], ◌∷◌, ◌++◌, length, map, get_or, codes, decimal, sym, ap, refl, arith, length-append}
 use Rattle.std.specs.List.{All}
-use Rattle.std.proofs.lemmas.List.{length-map}
 use Rattle.std.proofs.lemmas.Fmt.{decimal_injective}
 use Rattle.pm_logic.specs.declared.problem.Class.{Class}
 use Rattle.pm_logic.specs.declared.problem.Class.TheVariants.{Plain, Regular}
@@ -10,14 +9,14 @@ use Rattle.pm_logic.specs.declared.problem.Start.TheVariants.{Negative, All as E
 use Rattle.pm_logic.specs.declared.tableau.BoundKind.{BoundKind}
 use Rattle.pm_logic.specs.declared.tableau.BoundKind.TheVariants.{Depth, Inferences}
 use Rattle.pm_logic.specs.declared.symbols.Kind.{Kind}
-use Rattle.pm_logic.specs.declared.symbols.Kind.TheVariants.{Predicate, Function, Equality}
+use Rattle.pm_logic.specs.declared.symbols.Kind.TheVariants.{Predicate, Equality}
 use Rattle.pm_logic.specs.Problem.{Symbol}
 use Rattle.pm_logic.specs.Word.{written_word, written_as, written_symbol}
 use Rattle.pm_certread.specs.declared.levels.Level.TheVariants.{Exhausted, Proved}
-use Rattle.pm_certread.specs.Lines.{ended, spaced, variable_line, application_line, root_line, status_line, end_line, Header, class_word, start_word, bound_word, header_line_1, header_line_2, Ending, closed_by, extended_by, ending_words, sign_word, NodeLine}
+use Rattle.pm_certread.specs.Lines.{ended, spaced, variable_line, Header, class_word, start_word, bound_word, header_line_1, header_line_2, Ending, closed_by, extended_by, ending_words, sign_word, NodeLine}
 use Rattle.pm_certread.specs.Forms.{IsNumber, IsExhausted, IsProved, IsHeader, IsApplication, IsRoot, IsPredicate, IsNode, ending_number}
 use Rattle.pm_certread.specs.Inside.Wholes.{AreWhole}
-use Rattle.pm_certread.specs.Inside.Words.{words_of, unescaped}
+use Rattle.pm_certread.specs.Inside.Words.{unescaped}
 use Rattle.pm_certread.specs.Inside.Nodes.{front_words}
 use Rattle.pm_certread.specs.Inside.Head.{level_words, front_words as header_front, back_words, bounded_words, depth_words}
 use Rattle.pm_certread.specs.declared.header.Version.TheVariants.{First, Second}
@@ -108,8 +107,8 @@ second_words h = header_front Second h.class h.start ++ (bounded_words h.bound h
 not_both_versions : (raw : List ℕ) (a b : Header) → IsHeader raw a → IsHeader raw b → raw ≡ ended (header_line_1 a) → raw ≡ ended (header_line_2 b) → ⊥
 not_both_versions raw a b is is_too first second =
     let words : first_words a ≡ second_words b = same_words raw (first_words a) (second_words b) tt tt
-        (header_whole First (depth_words a.size) a (depth_whole a.size is.size) is.terms is.nodes)
-        (header_whole Second (bounded_words b.bound b.size) b (bounded_whole b.bound b.size is_too.size) is_too.terms is_too.nodes) first second in
+    (header_whole First (depth_words a.size) a (depth_whole a.size is.size) is.terms is.nodes)
+    (header_whole Second (bounded_words b.bound b.size) b (bounded_whole b.bound b.size is_too.size) is_too.terms is_too.nodes) first second in
     let version : codes "1" ≡ codes "2" = cc in
     let bad : ◌≡◌ {A = ℕ} 49 50 = first_byte (codes "1") (codes "2") version in
     omega arith
@@ -117,8 +116,8 @@ not_both_versions raw a b is is_too first second =
 same_first : (raw : List ℕ) (a b : Header) → IsHeader raw a → IsHeader raw b → a.bound ≡ Depth → b.bound ≡ Depth → raw ≡ ended (header_line_1 a) → raw ≡ ended (header_line_1 b) → a ≡ b
 same_first raw a b is is_too depth depth_too first second =
     let words : first_words a ≡ first_words b = same_words raw (first_words a) (first_words b) tt tt
-        (header_whole First (depth_words a.size) a (depth_whole a.size is.size) is.terms is.nodes)
-        (header_whole First (depth_words b.size) b (depth_whole b.size is_too.size) is_too.terms is_too.nodes) first second in
+    (header_whole First (depth_words a.size) a (depth_whole a.size is.size) is.terms is.nodes)
+    (header_whole First (depth_words b.size) b (depth_whole b.size is_too.size) is_too.terms is_too.nodes) first second in
     let class : class_word a.class ≡ class_word b.class = cc in
     let start : start_word a.start ≡ start_word b.start = cc in
     let size : decimal a.size ≡ decimal b.size = cc in
@@ -130,8 +129,8 @@ same_first raw a b is is_too depth depth_too first second =
 same_second : (raw : List ℕ) (a b : Header) → IsHeader raw a → IsHeader raw b → raw ≡ ended (header_line_2 a) → raw ≡ ended (header_line_2 b) → a ≡ b
 same_second raw a b is is_too first second =
     let words : second_words a ≡ second_words b = same_words raw (second_words a) (second_words b) tt tt
-        (header_whole Second (bounded_words a.bound a.size) a (bounded_whole a.bound a.size is.size) is.terms is.nodes)
-        (header_whole Second (bounded_words b.bound b.size) b (bounded_whole b.bound b.size is_too.size) is_too.terms is_too.nodes) first second in
+    (header_whole Second (bounded_words a.bound a.size) a (bounded_whole a.bound a.size is.size) is.terms is.nodes)
+    (header_whole Second (bounded_words b.bound b.size) b (bounded_whole b.bound b.size is_too.size) is_too.terms is_too.nodes) first second in
     let class : class_word a.class ≡ class_word b.class = cc in
     let start : start_word a.start ≡ start_word b.start = cc in
     let bound : bound_word a.bound ≡ bound_word b.bound = cc in

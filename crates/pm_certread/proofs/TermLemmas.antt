@@ -1,21 +1,17 @@
 -- The terms of term lines, and the rows that the code keeps for them.
-use Rattle.std.proofs.Common.{◌≡◌, ◌≢◌, ◌∙◌, ◌<◌, ◌≤◌, ◌⊎◌, inl, inr, ℕ, zero, suc, ◌+◌, List, [], ◌∷◌, ◌++◌, length, map, take, get_or, Option, Some, None, Bor, Result, Ok, Err, IfOk, decimal, string_bytes, sym, ap, refl, subst, arith, length-append}
+use Rattle.std.proofs.Common.{◌≡◌, ◌∙◌, ◌<◌, ◌≤◌, ◌⊎◌, inl, inr, ℕ, zero, suc, ◌+◌, List, [], ◌∷◌, ◌++◌, length, map, take, get_or, Option, Some, None, Bor, Result, Ok, Err, IfOk, decimal, string_bytes, sym, ap, refl, subst, arith}
 use Rattle.std.specs.Prelude.{slice_get}
 use Rattle.std.specs.List.{All}
-use Rattle.std.proofs.lemmas.List.{map-append, get_or_append_left, take_more, take_all, length-map}
-use Rattle.std.proofs.Math.ListN.{get_or-map}
+use Rattle.std.proofs.lemmas.List.{map-append, get_or_append_left, take_more, take_all}
 use Rattle.std.proofs.lemmas.List.Elements.{All-push}
 use Rattle.pm_logic.specs.declared.symbols.Kind.TheVariants.{Function}
 use Rattle.pm_logic.specs.Term.{Term, var, app, as_terms, tree_at}
 use Rattle.pm_logic.specs.Table.{Adds, variable_count}
-use Rattle.pm_logic.specs.Problem.{Symbol, IsPrintable}
+use Rattle.pm_logic.specs.Problem.{Symbol}
 use Rattle.pm_logic.specs.Word.{written_word, written_as, written_symbol}
 use Rattle.pm_certread.specs.declared.application.Application.{Application}
-use Rattle.pm_certread.specs.Lines.{ended, spaced, application_line}
-use Rattle.pm_certread.specs.Forms.{IsNumber, IsApplication}
-use Rattle.pm_certread.specs.Reading.{TermLines, AddsVariable, AddsApplication}
+use Rattle.pm_certread.specs.Reading.{AddsVariable, AddsApplication}
 use Rattle.pm_certread.specs.Inside.Cuts.{IsCut, bytes_of}
-use Rattle.pm_certread.specs.Inside.Wholes.{AreWhole}
 use Rattle.pm_certread.specs.Inside.Terms.{ReadsApplication, IsApplicationLine, application_words, rows_of}
 use Rattle.pm_certread.proofs.WordLemmas.{symbol_whole, decimals_whole}
 use Rattle.pm_certread.proofs.FormLemmas.{cut_is, is_cut}

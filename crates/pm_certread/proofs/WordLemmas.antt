@@ -1,15 +1,15 @@
 -- The words of a line of whole words are these words.
-use Rattle.std.proofs.Common.{◌≡◌, ◌∙◌, ℕ, zero, suc, ◌+◌, ◌%◌, ◌^◌, ◌<◌, ◌≤◌, ◌==◌, ◌&&◌, ◌||◌, not, Bool, true, false, cond, List, [], ◌∷◌, ◌++◌, length, take, drop, map, refl, sym, ap, arith, codes, decimal, true≢false, rules, tests, Result, Ok, Err, Option, Some, None}
+use Rattle.std.proofs.Common.{◌≡◌, ◌∙◌, ℕ, suc, ◌+◌, ◌%◌, ◌^◌, ◌<◌, ◌≤◌, ◌==◌, ◌&&◌, ◌||◌, not, Bool, true, false, cond, List, [], ◌∷◌, ◌++◌, length, take, drop, map, refl, sym, ap, arith, decimal, true≢false, rules, tests}
 use Rattle.std.specs.List.{All, list_all, onto_first, flat_map}
-use Rattle.std.specs.Char.{is_ascii_lowercase, is_ascii_alphanumeric}
+use Rattle.std.specs.Char.{is_ascii_lowercase}
 use Rattle.std.proofs.lemmas.List.Folds.{list_all-append}
-use Rattle.std.proofs.lemmas.Fmt.{decimal_by_steps, decimal_injective}
+use Rattle.std.proofs.lemmas.Fmt.{decimal_by_steps}
 use Rattle.pm_logic.specs.declared.symbols.Kind.{Kind}
 use Rattle.pm_logic.specs.declared.symbols.Kind.TheVariants as kinds
 use Rattle.pm_logic.specs.Problem.{Symbol}
 use Rattle.pm_logic.specs.Word.{is_word_byte, is_lower_word, escaped, quoted, written_word, written_as, written_symbol}
 use Rattle.pm_certread.specs.declared.words.Place.{Place}
-use Rattle.pm_certread.specs.declared.words.Place.TheVariants.{Outside, Quoted, Escaped}
+use Rattle.pm_certread.specs.declared.words.Place.TheVariants.{Outside, Quoted}
 use Rattle.pm_certread.specs.Lines.{spaced, ended}
 use Rattle.pm_certread.specs.Inside.Words.{next_place, parts, words_from, words_of, first_length}
 use Rattle.pm_certread.specs.Inside.Wholes.{IsWholeFrom, IsWhole, AreWhole}

@@ -1,7 +1,6 @@
 -- Which lines have the form of a certificate's: numbers are below 2^64, and a symbol's text is one
 -- that a problem may have.
 use Rattle.std.specs.Prelude.{◌≡◌, ℕ, ◌^◌, ◌<◌, ◌⊎◌, List, All, length, codes}
-use Rattle.pm_logic.specs.declared.symbols.Kind.{Kind}
 use Rattle.pm_logic.specs.declared.symbols.Kind.TheVariants.{Predicate, Function, Equality}
 use Rattle.pm_logic.specs.declared.tableau.BoundKind.TheVariants.{Depth}
 use Rattle.pm_logic.specs.Problem.{Symbol, IsPrintable}

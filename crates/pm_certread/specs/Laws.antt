@@ -4,8 +4,8 @@ use Rattle.std.specs.List.{AllZip}
 use Rattle.pm_logic.specs.declared.tableau.NodeKind.{NodeKind}
 use Rattle.pm_logic.specs.declared.tableau.NodeKind.TheVariants.{Leaf, Inner}
 use Rattle.pm_logic.specs.Lists.{AreDistinct}
-use Rattle.pm_logic.specs.Problem.{Problem, IsValid}
-use Rattle.pm_logic.specs.Tableau.{Entry, preorder}
+use Rattle.pm_logic.specs.Problem.{Problem}
+use Rattle.pm_logic.specs.Tableau.{preorder}
 use Rattle.pm_calculus.specs.Connection.{IsOverSymbols}
 use Rattle.pm_certread.specs.Certificate.{Certificate}
 use Rattle.pm_certread.specs.Reading.{Outcome, accepted, Reads}

@@ -59,8 +59,8 @@ abbrev pub GivesTerm : List Symbol → TermLines → List ℕ → TermLines → 
 GivesTerm symbols old raw new =
     ((raw ≡ ended variable_line) × AddsVariable old new)
     ⊎ ((symbol : Symbol) × (numbers : List ℕ) × (number : ℕ) × IsApplication raw symbol numbers
-        × AreThere old.each numbers × (slice_get symbols number ≡ Some symbol)
-        × AddsApplication old new number numbers)
+    × AreThere old.each numbers × (slice_get symbols number ≡ Some symbol)
+    × AddsApplication old new number numbers)
 
 -- of several kinds the first counts
 abbrev pub TermOffends : List Symbol → TermLines → List ℕ → CertKind → Type 0
@@ -174,16 +174,16 @@ Leads over before after opening raw next = (raw ≡ ended status_line) × (next 
 Leads over before after (levels level) raw next =
     (work : ℕ)
     × ((IsExhausted raw level work × (next ≡ levels (level + 1)))
-        ⊎ (IsProved raw level work × (next ≡ heading)))
+    ⊎ (IsProved raw level work × (next ≡ heading)))
 Leads over before after heading raw next =
     (h : Header) × IsHeader raw h × (after ≡ h.terms + h.nodes + 2)
     × (next ≡ terms (record { header = h; line = before + 1 }) no_terms)
 Leads over before after (terms head old) raw next =
     ((length old.each < head.header.terms)
-        × (new : TermLines) × GivesTerm over.symbols old raw new × (next ≡ terms head new))
+    × (new : TermLines) × GivesTerm over.symbols old raw new × (next ≡ terms head new))
     ⊎ ((head.header.terms ≤ length old.each)
-        × (clause : ℕ) × IsRoot raw clause × (clause < length over.clauses)
-        × (next ≡ nodes head old (no_nodes clause)))
+    × (clause : ℕ) × IsRoot raw clause × (clause < length over.clauses)
+    × (next ≡ nodes head old (no_nodes clause)))
 Leads over before after (nodes head each old) raw next =
     (length old.entries < head.header.nodes)
     × (node : NodeLine) × (predicate : ℕ) × (new : NodeLines) × IsNode raw node
@@ -235,11 +235,11 @@ abbrev pub ReadsFrom : Problem → Stage → ℕ → List (List ℕ) → Outcome
 ReadsFrom over stage before [] outcome = outcome ≡ refused (before + 1) Syntax
 ReadsFrom over stage before (raw ∷ raws) outcome =
     ((next : Stage) × Leads over before (length raws) stage raw next
-        × ReadsFrom over next (before + 1) raws outcome)
+    × ReadsFrom over next (before + 1) raws outcome)
     ⊎ ((kind : CertKind) × Offends over (length raws) stage raw kind
-        × (outcome ≡ refused (before + 1) kind))
+    × (outcome ≡ refused (before + 1) kind))
     ⊎ ((certificate : Certificate) × Ends stage raw certificate
-        × (outcome ≡ accepted certificate))
+    × (outcome ≡ accepted certificate))
 
 -- the reading of a document
 abbrev pub Reads : Problem → List ℕ → Outcome → Type 0

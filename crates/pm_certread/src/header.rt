@@ -245,7 +245,8 @@ fn header_line(alloc: Global, raw: &[u8]) -> Result<Option<Header>, AllocError>
 fn agrees(header: &Header, after: u64) -> bool
     ensures { IsTrue result ↔ (after ≡ header.now.terms + header.now.nodes + 2) }
 {
-    header.terms <= after && header.nodes <= after - header.terms
+    header.terms <= after
+        && header.nodes <= after - header.terms
         && after - header.terms - header.nodes == 2
 }
 

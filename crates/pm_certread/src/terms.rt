@@ -118,8 +118,12 @@ fn read_term(
     if !are_below(&line.numbers, given.rows.len()) {
         return Err(Fault::Kind(CertKind::TermRange));
     }
-    let Some(symbol) = find_symbol(symbols, line.text.as_str(), line.numbers.len(), Kind::Function)
-    else {
+    let Some(symbol) = find_symbol(
+        symbols,
+        line.text.as_str(),
+        line.numbers.len(),
+        Kind::Function,
+    ) else {
         return Err(Fault::Kind(CertKind::UnknownSymbol));
     };
     given.add_application(alloc, symbol, &line.numbers)?;

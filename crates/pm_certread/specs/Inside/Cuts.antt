@@ -1,5 +1,5 @@
 -- A line's words, as the code has them.
-use Rattle.std.specs.Prelude.{◌≡◌, ◌≢◌, ◌==◌, ℕ, suc, List, [], ◌∷◌, if◌then◌else◌, Option, None, Some, All, map, decimal, string_bytes}
+use Rattle.std.specs.Prelude.{◌≡◌, ◌≢◌, ◌==◌, ℕ, suc, List, [], ◌∷◌, if◌then◌else◌, Option, None, Some, All, map, decimal}
 use Rattle.std.specs.Borrow.{Bor}
 use Rattle.pm_logic.specs.Problem.{IsPrintable}
 use Rattle.pm_logic.specs.Word.{written_word}

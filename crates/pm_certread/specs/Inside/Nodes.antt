@@ -1,5 +1,5 @@
 -- The words of node lines, and what the code reads of them.
-use Rattle.std.specs.Prelude.{◌≡◌, ◌≢◌, ◌^◌, ◌<◌, ◌≤◌, ◌⊎◌, ◌++◌, ℕ, Bool, true, false, List, [], ◌∷◌, Option, None, Some, All, codes, decimal, length, map, string_bytes}
+use Rattle.std.specs.Prelude.{◌≡◌, ◌≢◌, ◌^◌, ◌<◌, ◌⊎◌, ◌++◌, ℕ, Bool, List, [], ◌∷◌, Option, None, Some, All, codes, decimal, length, map, string_bytes}
 use Rattle.pm_logic.specs.declared.symbols.Kind.{Kind}
 use Rattle.pm_logic.specs.declared.symbols.Kind.TheVariants.{Predicate, Equality}
 use Rattle.pm_logic.specs.Problem.{Symbol, IsPrintable}

@@ -1,5 +1,4 @@
 -- What the lines that are left come to.
-use Rattle.std.specs.Prelude.{ℕ}
 use Rattle.pm_logic.specs.Problem.{Problem}
 use Rattle.pm_certread.specs.declared.error.CertError.{CertError}
 use Rattle.pm_certread.specs.declared.error.CertError.TheVariants.{At, Memory}

@@ -1,5 +1,5 @@
 -- The words of term lines and of the root's line, and what the code reads of them.
-use Rattle.std.specs.Prelude.{◌≡◌, ◌≢◌, ◌<◌, ◌≤◌, ℕ, List, [], ◌∷◌, Option, None, Some, All, codes, decimal, length, map, slice_index_or, string_bytes}
+use Rattle.std.specs.Prelude.{◌≡◌, ◌≢◌, ◌<◌, ℕ, List, [], ◌∷◌, Option, None, Some, All, codes, decimal, length, map, slice_index_or, string_bytes}
 use Rattle.pm_logic.specs.declared.symbols.Kind.TheVariants.{Function}
 use Rattle.pm_logic.specs.Term.{tree_at}
 use Rattle.pm_logic.specs.Problem.{Symbol, IsPrintable}

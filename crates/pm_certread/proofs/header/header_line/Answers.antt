@@ -1,4 +1,3 @@
-use Rattle.std.proofs.Common.{◌≡◌}
 use Rattle.pm_certread.proofs.FormLemmas.{cut_some, cut_none}
 use Rattle.pm_certread.proofs.HeaderLemmas.{no_header, header_line_is}
 use Rattle.pm_certread.proofs.header.header_line.Goals as goal

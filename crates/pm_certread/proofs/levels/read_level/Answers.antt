@@ -1,5 +1,3 @@
-use Rattle.std.proofs.Common.{◌≡◌, Bor, List, ℕ, Vec, Global, Some, None}
-use Rattle.pm_certread.specs.Inside.Cuts.{IsCut}
 use Rattle.pm_certread.proofs.FormLemmas.{cut_some, cut_none}
 use Rattle.pm_certread.proofs.LevelLemmas.{no_line, not_level, other_level, found_level}
 use Rattle.pm_certread.proofs.levels.read_level.Goals as goal

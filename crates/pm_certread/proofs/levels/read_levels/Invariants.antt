@@ -1,4 +1,4 @@
-use Rattle.std.proofs.Common.{◌<◌, ◌≤◌, ◌+◌, length}
+use Rattle.std.proofs.Common.{◌≤◌, ◌+◌, length}
 use Rattle.pm_logic.specs.Problem.{Problem}
 use Rattle.pm_certread.specs.Reading.{opening, levels}
 use Rattle.pm_certread.specs.Inside.Progress.{Continues}

@@ -23,17 +23,17 @@ no_numbers {V} f words o h is = subst (λ (p : Option V). ReadsNumbers words (op
 pub returns-in_default : goal.returns-in_default
 returns-in_default c node are =
     let parts = parts_of c.args.words.now c.split_at.result.0.now c.split_at-2.result.0.now c.split_at-2.result.1.now node
-        (cut c.args.words.now c.split_at.result.0.now c.split_at.result.1.now c.split_at-2.result.0.now c.split_at-2.result.1.now c.split_at.ensures.front c.split_at.ensures.back c.split_at-2.ensures.front c.split_at-2.ensures.back) are in
+    (cut c.args.words.now c.split_at.result.0.now c.split_at.result.1.now c.split_at-2.result.0.now c.split_at-2.result.1.now c.split_at.ensures.front c.split_at.ensures.back c.split_at-2.ensures.front c.split_at-2.ensures.back) are in
     c.in_default.ensures node.ending are.small_ending parts.ending_is
 
 pub returns-in_default-2 : goal.returns-in_default-2
 returns-in_default-2 c node are =
     let parts = parts_of c.args.words.now c.split_at.result.0.now c.split_at-2.result.0.now c.split_at-2.result.1.now node
-        (cut c.args.words.now c.split_at.result.0.now c.split_at.result.1.now c.split_at-2.result.0.now c.split_at-2.result.1.now c.split_at.ensures.front c.split_at.ensures.back c.split_at-2.ensures.front c.split_at-2.ensures.back) are in
+    (cut c.args.words.now c.split_at.result.0.now c.split_at.result.1.now c.split_at-2.result.0.now c.split_at-2.result.1.now c.split_at.ensures.front c.split_at.ensures.back c.split_at-2.ensures.front c.split_at-2.ensures.back) are in
     no_front (bytes_of c.split_at.result.0.now) c.in_ok-front.field-0 c.in_ok-front.ensures c.in_default-2.is node.depth node.positive node.symbol.kind node.symbol.text are.small_depth are.named parts.front_is
 
 pub returns-in_default-3 : goal.returns-in_default-3
 returns-in_default-3 c node are =
     let parts = parts_of c.args.words.now c.split_at.result.0.now c.split_at-2.result.0.now c.split_at-2.result.1.now node
-        (cut c.args.words.now c.split_at.result.0.now c.split_at.result.1.now c.split_at-2.result.0.now c.split_at-2.result.1.now c.split_at.ensures.front c.split_at.ensures.back c.split_at-2.ensures.front c.split_at-2.ensures.back) are in
+    (cut c.args.words.now c.split_at.result.0.now c.split_at.result.1.now c.split_at-2.result.0.now c.split_at-2.result.1.now c.split_at.ensures.front c.split_at.ensures.back c.split_at-2.ensures.front c.split_at-2.ensures.back) are in
     no_numbers (λ ns. ns.items) (bytes_of c.split_at-2.result.0.now) c.in_ok-numbers.field-0 c.in_ok-numbers.ensures c.in_default-3.is node.numbers are.small_numbers parts.args_are

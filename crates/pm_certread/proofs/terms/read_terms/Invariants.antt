@@ -9,8 +9,8 @@ abbrev pub invariant-terms : goal.invariant-terms
 invariant-terms l =
     AreRows l.given
     × ((line : ℕ)
-        → let head : Head = record { header = header_of l.header; line = line } in
-        Continues l.problem (terms head no_terms) l.fn.lines (terms head (lines_of l.given)) l.lines)
+    → let head : Head = record { header = header_of l.header; line = line } in
+    Continues l.problem (terms head no_terms) l.fn.lines (terms head (lines_of l.given)) l.lines)
     × (length l.given.rows.items ≤ l.header.terms)
     × (l.lines.taken ≡ l.fn.lines.taken + length l.given.rows.items)
 

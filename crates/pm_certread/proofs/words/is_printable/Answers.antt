@@ -1,5 +1,5 @@
 use Rattle.pm_certread.proofs.LineLemmas.{some_bytes}
-use Rattle.std.proofs.Common.{◌≡◌, ◌∙◌, ◌≤◌, ℕ, List, length, take, get_or, arith, refl, sym, subst, ◌+◌, ◌<◌}
+use Rattle.std.proofs.Common.{◌∙◌, ◌≤◌, ℕ, List, length, take, get_or, arith, refl, sym, subst, ◌+◌, ◌<◌}
 use Rattle.std.specs.List.{All}
 use Rattle.std.proofs.lemmas.List.{take_more, take_all}
 use Rattle.std.proofs.lemmas.List.Elements.{All-push}

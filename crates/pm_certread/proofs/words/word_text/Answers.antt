@@ -24,7 +24,7 @@ returns-then-not-are_same c text printable e =
     let same : c.in_ok-text.text.items ≡ text = text_of_word c.args.word.now c.in_ok-text.text.items text c.in_ok-text.ensures e in
     let bytes : string_bytes c.in-Ok.text ≡ text = ap (λ v. v.items) c.in-Ok.ensures.ok ∙ same in
     let written : c.deref-2.result.now ≡ c.args.word.now =
-        c.deref-2.ensures.value ∙ c.in_ok-write_word.ensures.ok
-        ∙ ap (λ (l : List ℕ). l ++ written_word c.as_str.result.now) c.in_ok-written.ensures.items
-        ∙ ap written_word (c.as_str.ensures.value ∙ bytes) ∙ sym e in
+    c.deref-2.ensures.value ∙ c.in_ok-write_word.ensures.ok
+    ∙ ap (λ (l : List ℕ). l ++ written_word c.as_str.result.now) c.in_ok-written.ensures.items
+    ∙ ap written_word (c.as_str.ensures.value ∙ bytes) ∙ sym e in
     neither c.are_same.result c.if-not-are_same.true (c.are_same.ensures.1 written)

@@ -1,7 +1,6 @@
-use Rattle.std.proofs.Common.{◌≡◌, ◌∙◌, ◌<◌, ◌++◌, ◌∷◌, [], ℕ, List, length, map, sym, subst, ap, refl}
+use Rattle.std.proofs.Common.{◌≡◌, ◌∙◌, ◌<◌, ◌++◌, ◌∷◌, [], ℕ, List, length, map, sym, subst, ap}
 use Rattle.std.specs.List.{All}
 use Rattle.pm_logic.specs.Term.{Term, tree_at}
-use Rattle.pm_logic.specs.Tableau.{Entry}
 use Rattle.pm_certread.specs.Inside.Terms.{rows_of}
 use Rattle.pm_certread.proofs.TermLemmas.{rows_within, trees_of_numbers}
 use Rattle.pm_certread.proofs.NodeLemmas.{entry_pushed, same_nodes, deepest_grows}
@@ -19,8 +18,8 @@ pub returns-clause-added : goal.returns-clause-added
 returns-clause-added c =
     let terms : List Term = c.args.self.now.tableau.terms in
     let args : map (tree_at terms) c.in_ok-args.args.items ≡ map (tree_at (map (tree_at terms) c.args.rows.now)) c.args.line.now.numbers.items =
-        ap (map (tree_at terms)) (c.in_ok-args.ensures ∙ ap (rows_of c.args.rows.now) c.deref.ensures.value)
-        ∙ trees_of_numbers terms c.args.rows.now c.args.line.now.numbers.items c.requires.there in
+    ap (map (tree_at terms)) (c.in_ok-args.ensures ∙ ap (rows_of c.args.rows.now) c.deref.ensures.value)
+    ∙ trees_of_numbers terms c.args.rows.now c.args.line.now.numbers.items c.requires.there in
     same_nodes _ _ c.in_ok-add.ensures.root
     (entry_pushed _ _ c.args.line.now.depth c.args.predicate c.args.line.now.positive _ _ _ _ args c.kind_of-kind.ensures c.in_ok-add.ensures.nodes)
     (c.in_ok-push.ensures.items ∙ ap (λ (k : ℕ). c.args.self.now.closers.items ++ k ∷ []) c.closer_of.ensures)

@@ -1,4 +1,4 @@
-use Rattle.std.proofs.Common.{◌≡◌, ◌∙◌, ◌<◌, ℕ, List, length, sym, subst, ap}
+use Rattle.std.proofs.Common.{◌∙◌, ◌<◌, ℕ, List, length, sym, subst, ap}
 use Rattle.std.specs.List.{All}
 use Rattle.pm_certread.specs.Inside.Terms.{rows_of}
 use Rattle.pm_certread.proofs.TermLemmas.{adds_application, rows_within}
