@@ -42,8 +42,8 @@ impl TermRows {
         ensures count { OnOk result
             (length self.new.rows.items ≡ length self.old.rows.items + 1) }
     {
-        let row = self.table.add_var()?;
-        self.rows.push(row)?;
+        let last = self.table.add_var()?;
+        self.rows.push(last)?;
         Ok(())
     }
 
