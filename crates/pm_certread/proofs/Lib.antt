@@ -1,0 +1,13 @@
+pub mod WordLemmas
+pub mod TextLemmas
+pub mod CutLemmas
+pub mod LineLemmas
+pub mod FormLemmas
+pub mod LevelLemmas
+pub mod HeaderLemmas
+pub mod ProgressLemmas
+pub mod TermLemmas
+pub mod NodeLemmas
+pub mod OverLemmas
+pub mod SameLines
+pub mod DeterminedLemmas

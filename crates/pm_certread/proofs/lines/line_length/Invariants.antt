@@ -1,0 +1,6 @@
+use Rattle.std.proofs.Common.{◌≡◌, ◌+◌, drop}
+use Rattle.pm_certread.specs.Inside.Cuts.{line_length}
+use Rattle.pm_certread.proofs.lines.line_length.Given as goal
+
+abbrev pub invariant-loop-i : goal.invariant-loop-i
+invariant-loop-i l = l.i + line_length (drop l.i l.text) ≡ line_length l.text
