@@ -75,7 +75,7 @@ mutual
   entries_in trees d (closed_leaf l k) = refl
   entries_in trees d (grown l c ts) = ap (λ es. entry_under trees (node_at d l (Some c) None) ∷ es) (all_entries_in trees (d + 1) ts)
 
-  all_entries_in : (trees : ℕ → Term) (d : ℕ) (ts : CellTrees) → preorder_among d (nodes_over trees ts) ≡ map (entry_under trees) (all_nodes_in d ts)
+  pub all_entries_in : (trees : ℕ → Term) (d : ℕ) (ts : CellTrees) → preorder_among d (nodes_over trees ts) ≡ map (entry_under trees) (all_nodes_in d ts)
   all_entries_in trees d no_trees = refl
   all_entries_in trees d (more_trees t ts) =
       ap₂ (λ es fs. es ++ fs) (entries_in trees d t) (all_entries_in trees d ts) ∙ sym (map-append (entry_under trees) (nodes_in d t) (all_nodes_in d ts))

@@ -169,14 +169,14 @@ grown_holds P d l c children own all =
 
 module _ (problem : Problem) (c j : ℕ) (m : MachineState) (valid : IsValid problem) (is : IsBuilt problem m)
     (may : MayTake problem.clauses (built problem.clauses m.steps) (extend c j)) where
-  head_there : (at : LeafOf m) (literal : Literal) → slice_get (literals_at problem.clauses c) j ≡ Some literal
+  pub head_there : (at : LeafOf m) (literal : Literal) → slice_get (literals_at problem.clauses c) j ≡ Some literal
       → IsHeadFor problem c j (leaf_of problem m at is).literal literal
   head_there at literal has =
       head_for problem c j (leaf_of problem m at is).literal literal valid
       (literal_holds problem m at is (HasItsCount problem.symbols) is.counts)
       (step_at_leaf problem m at is (extend c j) may) has
 
-  begun_in_store : (at : LeafOf m) → IsInStore (begun_at problem.clauses c m at)
+  pub begun_in_store : (at : LeafOf m) → IsInStore (begun_at problem.clauses c m at)
   begun_in_store at =
       begins_in_store problem m at is (variables_at problem.clauses c) at.leaf.literal.args
       (leaf_holds problem m at is (HasArgsBelow (length m.equations.cells)) is.cells)
@@ -186,7 +186,7 @@ module _ (problem : Problem) (c j : ℕ) (m : MachineState) (valid : IsValid pro
   same_counts at literal has = ap (λ (l : CellLiteral). length l.args) (leaf_same problem m at is) ∙ (head_there at literal has).count
 
   -- the longer skeleton
-  state_there : (at : LeafOf m) (literal : Literal) (has : slice_get (literals_at problem.clauses c) j ≡ Some literal)
+  pub state_there : (at : LeafOf m) (literal : Literal) (has : slice_get (literals_at problem.clauses c) j ≡ Some literal)
       → built problem.clauses (m.steps ++ extend c j ∷ [])
       ≡ rooted (leaf_of problem m at is).root (skeletons_around (leaf_of problem m at is).context
       (made problem c j (leaf_of problem m at is).literal literal (head_there at literal has) (leaf_of problem m at is).context))

@@ -23,7 +23,7 @@ use Rattle.pm_run.proofs.KeepLemmas.{runs_stay_in_stores}
 use Rattle.pm_calculus.specs.Skeleton as calculus
 use Rattle.pm_calculus.specs.Skeleton.{Face, State, empty, rooted, start, extend, reduce, Subgoal, selected, built, literals_at, depth_of}
 use Rattle.pm_calculus.specs.Alternatives.{IsStepAt, MayTake}
-use Rattle.pm_machine.specs.State.{CellNode, MachineState, IsSelected}
+use Rattle.pm_machine.specs.State.{CellNode, MachineState, IsOpen, IsSelected, IsAncestorAt, IsPlaceOfLeaf, AreAncestors}
 use Rattle.pm_machine.specs.Labels.{HasItsCount}
 use Rattle.pm_machine.specs.Taken.{LeafOf}
 use Rattle.pm_machine.specs.Inside.Frames.{TreeValue, CanStep}
@@ -33,12 +33,12 @@ use Rattle.pm_machine.specs.Node.{node_of, Views}
 use Rattle.pm_machine.specs.Value.{MachineValue}
 use Rattle.pm_machine.specs.Inside.History.{steps_of, state_of, states_before, HasPlace, IsStanding, IsHistory}
 use Rattle.pm_machine.specs.Inside.Running.{MayTakeAt}
-use Rattle.pm_machine.proofs.Selected.{selected_leaves_agree, no_leaf_is_selected, selected_leaves_have_branches}
+use Rattle.pm_machine.proofs.Selected.{first_is_one, selected_leaves_agree, no_leaf_is_selected, selected_leaves_have_branches}
 use Rattle.pm_machine.proofs.AtLeaf.{leaf_of, leaf_holds, leaf_same, literal_holds, step_at_leaf}
 use Rattle.pm_machine.proofs.Leaves.{same_shape}
 use Rattle.pm_machine.proofs.Contexts.{goal_in, depth_of_goal}
 use Rattle.pm_machine.proofs.Extending.{head_for}
-use Rattle.pm_machine.proofs.PlaceLemmas.{selected_here, none_open, is_within, some_same}
+use Rattle.pm_machine.proofs.PlaceLemmas.{selected_here, none_open, is_within, some_same, ancestor_at}
 
 -- a run that comes to its end leaves a sound store that has grown
 pub run_grows : (clauses : List Clause) (code : List Instruction) (locals : ℕ) (cells : List ℕ) (s later : Equations) (children : List Child)
@@ -223,3 +223,68 @@ pub no_leaf_views : (problem : Problem) (ground : List (Option ℕ)) (s : Equati
     → Views (selected (built problem.clauses (steps_of tree.taken))) None
 no_leaf_views problem ground s tree standing none =
     subst (λ o. Views o None) (sym (no_leaf_is_selected problem (state_of s tree) standing.built (none_open tree.nodes tree.leaf standing.leaf.next none))) tt
+
+-- the first so many of a list
+get_taken : (n : ℕ) (xs : List ℕ) (i x : ℕ) → slice_get (take n xs) i ≡ Some x → (i < n) × (slice_get xs i ≡ Some x)
+get_taken zero xs i x is = absurd cc
+get_taken (suc n) [] i x is = absurd cc
+get_taken (suc n) (y ∷ xs) zero x is = (omega arith, is)
+get_taken (suc n) (y ∷ xs) (suc i) x is = let h = get_taken n xs i x is in (omega (arith, h.0), h.1)
+
+length_taken : {A : Type 0} (n : ℕ) (xs : List A) → n ≤ length xs → length (take n xs) ≡ n
+length_taken zero xs few = refl
+length_taken (suc n) [] few = absurd (omega (arith, few))
+length_taken (suc n) (x ∷ xs) few = ap suc (length_taken n xs (omega (arith, few)))
+
+-- the branch has the places of the selected leaf's ancestors
+module _ (problem : Problem) (ground : List (Option ℕ)) (s : Equations) (tree : TreeValue) (standing : IsStanding problem ground s tree)
+    (node : CellNode) (stands : slice_get tree.nodes tree.leaf ≡ Some node) where
+  one_selected : (before : List CellNode) (leaf : CellNode) (after : List CellNode) → IsSelected tree.nodes before leaf after
+      → (before ≡ take tree.leaf tree.nodes) × (leaf ≡ node)
+  one_selected before leaf after is =
+      let own = chosen problem ground s tree standing node stands in
+      let parts = first_is_one IsOpen before (take tree.leaf tree.nodes) leaf node after (drop (suc tree.leaf) tree.nodes)
+      (sym is.stands ∙ own.stands) is.first own.first is.unclosed own.unclosed in
+      (parts.0, parts.1)
+
+  pub above_count : node.depth - 1 ≤ length tree.branch
+  above_count =
+      let bounds = standing.leaf.below tree.leaf node stands in
+      let room = standing.leaf.room in
+      omega (arith, bounds.1, room)
+
+  pub are_ancestors : AreAncestors tree.nodes (take (node.depth - 1) tree.branch)
+  are_ancestors = record {
+    count = λ before leaf after is.
+        let same = one_selected before leaf after is in
+        let bounds = standing.leaf.below tree.leaf node stands in
+        omega (arith, ap (λ (n : CellNode). n.depth) same.1, bounds.0, length_taken (node.depth - 1) tree.branch above_count);
+    each = λ before leaf after level place is at.
+        let same = one_selected before leaf after is in
+        let there = get_taken (node.depth - 1) tree.branch level place at in
+        let has = standing.leaf.above node level stands (omega (arith, there.0)) in
+        let is_place : has.place ≡ place = some_same has.place place (sym has.at ∙ there.1) in
+        let within = standing.leaf.next.passed.within in
+        let low = has.before in
+        let long : length before ≡ tree.leaf = ap length same.0 ∙ length_taken tree.leaf tree.nodes within in (
+          omega (arith, is_place, low, long),
+          has.ancestor,
+          ap (slice_get tree.nodes) (sym is_place) ∙ has.stands,
+          subst (λ ns. IsAncestorAt ns (level + 1) has.ancestor) (sym same.0) (ancestor_at tree level has),
+        );
+  }
+
+pub is_place : (problem : Problem) (ground : List (Option ℕ)) (s : Equations) (tree : TreeValue) → IsStanding problem ground s tree → IsPlaceOfLeaf tree.nodes tree.leaf
+is_place problem ground s tree standing = record {
+  leaf = λ leaf is. chosen problem ground s tree standing leaf is;
+  none = λ none. none_open tree.nodes tree.leaf standing.leaf.next none;
+}
+
+-- a leaf is there, where one is selected
+pub leaf_there : (problem : Problem) (ground : List (Option ℕ)) (s : Equations) (tree : TreeValue) → IsStanding problem ground s tree
+    → (selected (built problem.clauses (steps_of tree.taken)) ≡ None → ⊥) → LeafStands tree
+leaf_there problem ground s tree standing some = by (slice_get tree.nodes tree.leaf) refl
+  where
+    by : (o : Option CellNode) → slice_get tree.nodes tree.leaf ≡ o → LeafStands tree
+    by (Some node) is = record { node = node; stands = is }
+    by None none = absurd (some (no_leaf_is_selected problem (state_of s tree) standing.built (none_open tree.nodes tree.leaf standing.leaf.next none)))

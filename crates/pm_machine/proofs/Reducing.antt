@@ -30,6 +30,7 @@ pub record HasAncestor (m : MachineState) (at : LeafOf m) (x : Context) (k : ℕ
   pub ancestor : CellLiteral
   pub on_branch : IsAncestor at.branch k ancestor at.leaf.literal
   pub over : (trees : ℕ → Term) → at_depth (literals_above trees [] x) k ≡ Some (literal_under trees ancestor)
+  pub is_one : (other : CellNode) → IsAncestorAt at.before k other → ancestor ≡ other.literal
 
 above_at : (trees : ℕ → Term) (x : Context) (place k : ℕ) (a : CellNode) → k ≡ suc place → slice_get (ancestors_in 1 x) place ≡ Some a
     → at_depth (literals_above trees [] x) k ≡ Some (literal_under trees a.literal)
@@ -39,7 +40,7 @@ above_at trees x place k a counted is =
     ∙ ap (option_map (λ (node : CellNode). literal_under trees node.literal)) is
 
 module _ (problem : Problem) (k : ℕ) (m : MachineState) (is : IsBuilt problem m) (may : MayTake problem.clauses (built problem.clauses m.steps) (reduce k)) where
-  ancestor_there : (at : LeafOf m) → HasAncestor m at (leaf_of problem m at is).context k
+  pub ancestor_there : (at : LeafOf m) → HasAncestor m at (leaf_of problem m at is).context k
   ancestor_there at =
       let h = leaf_of problem m at is in
       let x : Context = h.context in
@@ -67,9 +68,10 @@ module _ (problem : Problem) (k : ℕ) (m : MachineState) (is : IsBuilt problem 
           stands = slice_get-map (λ (node : CellNode). node.literal) at.leads.above place ∙ ap (option_map (λ (node : CellNode). node.literal)) is_b;
         };
         over = λ trees. above_at trees x place k a (omega (arith, bounds.0)) is_a ∙ ap (λ (node : CellNode). Some (literal_under trees node.literal)) same;
+        is_one = λ other is_other. ap (λ (node : CellNode). node.literal) (same_ancestor at.before k b other at_b is_other);
       }
 
-  begun_in_store : (at : LeafOf m) → IsInStore (begun m 0 at.branch [])
+  pub begun_in_store : (at : LeafOf m) → IsInStore (begun m 0 at.branch [])
   begun_in_store at = begins_in_store problem m at is 0 [] (All-nil (λ c. c < length m.equations.cells))
 
 -- what a reduction makes of solutions, in the place of the leaf

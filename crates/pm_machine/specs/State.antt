@@ -1,5 +1,5 @@
 -- What the machine has between steps: the steps taken, the store, and the nodes in pre-order.
-use Rattle.std.specs.Prelude.{◌≡◌, ℕ, ◌+◌, ◌<◌, if◌then◌else◌, List, [], ◌∷◌, ◌++◌, All, Option, Some, None, length, map, slice_get}
+use Rattle.std.specs.Prelude.{◌≡◌, ℕ, suc, ◌+◌, ◌<◌, if◌then◌else◌, List, [], ◌∷◌, ◌++◌, All, Option, Some, None, length, map, slice_get, take, drop}
 use Rattle.pm_store.specs.Equations.{Equations}
 use Rattle.pm_run.specs.State.{CellLiteral, Child}
 use Rattle.pm_calculus.specs.Skeleton.{SkeletonNode, Step}
@@ -56,6 +56,24 @@ pub record IsBranchTo (before : List CellNode) (leaf : CellNode)
   pub depth : leaf.depth ≡ length above + 1
   pub ancestors : (place : ℕ) (ancestor : CellNode) → slice_get above place ≡ Some ancestor
       → IsAncestorAt before (place + 1) ancestor
+
+-- the place of the selected leaf: the nodes before it aren't open, and it is, where it is there
+pub record IsPlaceOfLeaf (nodes : List CellNode) (place : ℕ) : Type 0 where
+  pub leaf :
+      (leaf : CellNode) → slice_get nodes place ≡ Some leaf
+      → IsSelected nodes (take place nodes) leaf (drop (suc place) nodes)
+  pub none : slice_get nodes place ≡ None → All (λ node. ¬ IsOpen node) nodes
+
+-- the places of the selected leaf's ancestors: one for each depth above its own
+pub record AreAncestors (nodes : List CellNode) (places : List ℕ) : Type 0 where
+  pub count :
+      (before : List CellNode) (leaf : CellNode) (after : List CellNode)
+      → IsSelected nodes before leaf after → leaf.depth ≡ length places + 1
+  pub each :
+      (before : List CellNode) (leaf : CellNode) (after : List CellNode) (level place : ℕ)
+      → IsSelected nodes before leaf after → slice_get places level ≡ Some place
+      → (place < length before) × (ancestor : CellNode)
+      × (slice_get nodes place ≡ Some ancestor) × IsAncestorAt before (level + 1) ancestor
 
 -- a new child of a node at a depth, the root's children being those of depth 0
 abbrev pub child_at : ℕ → Child → CellNode

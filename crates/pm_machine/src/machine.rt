@@ -1,10 +1,11 @@
 //! The machine: a tableau that grows by steps, and a store whose solutions are its labellings.
-ghost use Rattle.std.specs.Prelude.{◌≡◌, ◌≢◌, ◌<◌, [], IfOk, OnOk, OnErr, IsTrue, length, map};
+ghost use Rattle.std.specs.Prelude.{◌≡◌, ◌≢◌, ◌<◌, [], None, IfOk, OnOk, OnErr, IsTrue, length, map};
 ghost use Rattle.std.specs.Bool.{OnTrue, OnFalse};
 ghost use Rattle.pm_compile.specs.Code.{IsCodeOf};
 ghost use Rattle.pm_calculus.specs.Skeleton.{start, extend, reduce, selected};
 ghost use Rattle.pm_calculus.specs.Alternatives.{MayTake};
 ghost use Rattle.pm_machine.specs.Labels.{IsBuilt};
+ghost use Rattle.pm_machine.specs.State.{IsPlaceOfLeaf, AreAncestors};
 ghost use Rattle.pm_machine.specs.Node.{node_of, Views};
 ghost use Rattle.pm_machine.specs.Value.{IsNew, Answers, IsNotDeeper, IsBack, skeleton};
 ghost use Rattle.pm_machine.specs.Inside.History.{IsStanding};
@@ -95,6 +96,24 @@ impl<'p> Machine<'p> {
         ensures built { IsBuilt self.now.problem self.now.state }
     {
         &self.tree.nodes
+    }
+
+    /// The place of the selected leaf among the nodes; the number of nodes, where no leaf is open.
+    /// This takes no memory.
+    pub fn place(&self) -> usize
+        ensures { IsPlaceOfLeaf self.now.state.nodes result }
+    {
+        self.tree.place()
+    }
+
+    /// The places of the selected leaf's ancestors among the nodes, the one at depth 1 first. A
+    /// leaf is selected. This takes no memory.
+    pub fn ancestors(&self) -> &[usize]
+        requires { selected (skeleton self.now) ≢ None }
+        ensures { AreAncestors self.now.state.nodes result.now }
+    {
+        let depth = self.tree.leaf().depth as usize;
+        self.tree.above(depth - 1)
     }
 
     /// The store of the nodes' cells. This takes no memory.

@@ -88,6 +88,21 @@ impl Tree {
         self.nodes.get(self.leaf)
     }
 
+    // The place of the selected leaf: the number of nodes, where no leaf is open.
+    pub(crate) fn place(&self) -> usize
+        ensures { result ≡ self.now.leaf }
+    {
+        self.leaf
+    }
+
+    // The places of the first so many nodes on the branch.
+    pub(crate) fn above(&self, count: usize) -> &[usize]
+        requires { count ≤ length self.now.branch }
+        ensures { result.now ≡ take count self.now.branch }
+    {
+        &self.branch[..count]
+    }
+
     // The selected leaf, where one is.
     pub(crate) fn leaf(&self) -> &MachineNode
         requires { self.now.leaf < length self.now.nodes }

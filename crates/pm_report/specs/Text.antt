@@ -3,29 +3,7 @@ use Rattle.std.specs.Prelude.{ℕ, ◌+◌, List, [], ◌∷◌, ◌++◌, lengt
 use Rattle.std.specs.List.{flat_map}
 use Rattle.pm_scan.specs.declared.offence.CnfKind.{CnfKind}
 use Rattle.pm_scan.specs.Words.{kind_word}
-
-abbrev pub Line : Type 0
-Line = List ℕ
-
--- each line ends with LF, which is 10
-abbrev pub text_of : List Line → List ℕ
-text_of [] = []
-text_of (line ∷ lines) = line ++ 10 ∷ text_of lines
-
--- level d exhausted attempts N
-abbrev pub level_line : ℕ → ℕ → Line
-level_line level work =
-    codes "level " ++ (decimal level ++ (codes " exhausted attempts " ++ decimal work))
-
--- these lines for the levels from one on
-abbrev pub level_lines_from : ℕ → List ℕ → List Line
-level_lines_from level [] = []
-level_lines_from level (work ∷ works) =
-    level_line level work ∷ level_lines_from (level + 1) works
-
--- a line for each exhausted level, with its number of attempts
-abbrev pub level_lines : List ℕ → List Line
-level_lines works = level_lines_from 0 works
+pub use Rattle.pm_certread.specs.Lines.{Line, text_of, level_line, level_lines_from, level_lines}
 
 -- each level up to the depth option is exhausted
 abbrev pub gave_up_lines : List ℕ → List Line

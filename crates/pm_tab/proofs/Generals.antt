@@ -75,7 +75,7 @@ module _ (s : Equations) (sound : IsSound s) (trees : ℕ → Term) (solves : So
         ap₂ more_nodes (node_put d t (All-left Within (nodes_in d t) (all_nodes_in d ts) below)) (nodes_put d ts (All-right Within (nodes_in d t) (all_nodes_in d ts) below))
 
 -- the tableau of nodes that are those of trees over cells
-under_trees : (trees : ℕ → Term) (root : ℕ) (nodes : List CellNode) (ts : CellTrees) → nodes ≡ all_nodes_in 1 ts
+pub under_trees : (trees : ℕ → Term) (root : ℕ) (nodes : List CellNode) (ts : CellTrees) → nodes ≡ all_nodes_in 1 ts
     → tableau_under trees root nodes ≡ record { root = root; children = nodes_over trees ts }
 under_trees trees root nodes ts are =
     ap (tableau_under trees root) are ∙ ap (λ (ns : Nodes). let t : Tableau = record { root = root; children = ns } in t) (forest_over trees ts)

@@ -1,1 +1,3 @@
 pub mod Generals
+pub mod Hopeless
+pub mod Numbered

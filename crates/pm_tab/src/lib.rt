@@ -3,4 +3,7 @@
 
 mod laws;
 
-pub use laws::{general_tableaux_label, regularity_is_general};
+pub use laws::{
+    general_tableaux_label, labelled_steps_are_hopeful, numbered_tableaux_are_general,
+    regularity_is_general,
+};
