@@ -1,6 +1,6 @@
 -- What has a labelling is hopeful at sight.
-use Rattle.std.proofs.Common.{◌≡◌, ℕ, ◌+◌, ◌<◌, ◌⊎◌, inl, inr, Bool, true, false, not, List, [], ◌∷◌, ◌++◌, length, map, Option, Some, None, option_map, slice_get, refl, sym, ◌∙◌, ap, subst, arith}
-use Rattle.std.specs.Prelude.{All, option_and_then}
+use Rattle.std.proofs.Common.{◌≡◌, ℕ, ◌+◌, ◌<◌, inl, inr, Bool, true, false, not, List, [], ◌∷◌, ◌++◌, length, map, Option, Some, None, option_map, slice_get, refl, sym, ◌∙◌, ap, subst}
+use Rattle.std.specs.Prelude.{option_and_then}
 use Rattle.std.specs.Option.{option_map_or}
 use Rattle.std.proofs.lemmas.Option.{slice_get-map}
 use Rattle.pm_logic.specs.Term.{Term, var, app}
@@ -18,18 +18,18 @@ use Rattle.pm_run.specs.Steps.{HasFilledArgs}
 use Rattle.pm_calculus.specs.Skeleton.{closed, State, Step, start, extend, reduce, literals_at, built}
 use Rattle.pm_calculus.specs.Alternatives.{MayTake}
 use Rattle.pm_calculus.specs.Choices.{IsLabelling}
-use Rattle.pm_contra.specs.Index.{top, top_at}
-use Rattle.pm_machine.specs.State.{CellNode, MachineState, IsSelected, IsAncestorAt}
+use Rattle.pm_contra.specs.Index.{top}
+use Rattle.pm_machine.specs.State.{CellNode, MachineState, IsAncestorAt}
 use Rattle.pm_machine.specs.Labels.{IsBuilt}
 use Rattle.pm_machine.specs.Taken.{LeafOf}
 use Rattle.pm_machine.proofs.CellTrees.{face_at}
 use Rattle.pm_machine.proofs.Selected.{selected_leaves_have_branches}
-use Rattle.pm_machine.proofs.AtLeaf.{same_ancestor, leaf_of, built_there, leaf_same, leaf_holds, step_at_leaf, reduced_state}
+use Rattle.pm_machine.proofs.AtLeaf.{leaf_of, built_there, leaf_same, leaf_holds, step_at_leaf, reduced_state}
 use Rattle.pm_machine.proofs.InPlace.{apart}
 use Rattle.pm_machine.proofs.MachineLemmas.{all_at}
 use Rattle.pm_machine.proofs.Extending.{made, fills_extended, head_there, state_there}
 use Rattle.pm_machine.proofs.Reducing.{HasAncestor, fills_reduced, ancestor_there}
-use Rattle.pm_tab.specs.Hopeful.{AreOpposite, cell_top, MayMatch, IsHopeful}
+use Rattle.pm_tab.specs.Hopeful.{cell_top, MayMatch, IsHopeful}
 
 -- terms of one solution begin alike, or one of them with a variable
 same_symbol : (f g : ℕ) (t : Term) (ts us : _) → t ≡ app f ts → t ≡ app g us → f + 1 ≡ g + 1

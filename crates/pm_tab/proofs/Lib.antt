@@ -1,3 +1,11 @@
 pub mod Generals
+pub mod Around
+pub mod Families
+pub mod Room
+pub mod Paths
+pub mod Counted
 pub mod Hopeless
+pub mod Watching
+pub mod Taking
 pub mod Numbered
+pub mod Finding

@@ -1,5 +1,5 @@
 -- The tableau of numbered variables is the general one.
-use Rattle.std.proofs.Common.{◌≡◌, ℕ, ◌<◌, ◌⊎◌, inl, inr, List, [], ◌∷◌, ◌++◌, length, map, ◌+◌, Option, Some, IsSomeAnd, slice_get, refl, sym, ◌∙◌, ap, ap₂, subst, arith}
+use Rattle.std.proofs.Common.{◌≡◌, ℕ, ◌<◌, inl, inr, List, [], ◌∷◌, ◌++◌, length, map, ◌+◌, Option, Some, IsSomeAnd, refl, sym, ◌∙◌, ap, ap₂, subst}
 use Rattle.std.specs.Prelude.{All, Contains, fold}
 use Rattle.std.specs.List.{flat_map}
 use Rattle.std.proofs.lemmas.Bool.{cases_eq}
@@ -8,12 +8,10 @@ use Rattle.std.proofs.lemmas.List.Elements.{All-nil, All-cons, All-head, All-tai
 use Rattle.std.proofs.lemmas.Grind.{flat_map-append}
 use Rattle.pm_logic.specs.Term.{Term, var, app, Terms, no_terms, more_terms}
 use Rattle.pm_logic.specs.Filling.{fill, put}
-use Rattle.pm_logic.specs.Problem.{Literal, Clause, Problem}
-use Rattle.pm_logic.specs.Tableau.{leaf, inner, Nodes, more_nodes, Tableau, Entry, preorder, forest_of}
-use Rattle.pm_logic.specs.Variables.{variables, variables_in_order, AreNumberedFrom, IsNumberedInOrder}
+use Rattle.pm_logic.specs.Tableau.{leaf, inner, Nodes, more_nodes, Tableau, Entry, preorder}
+use Rattle.pm_logic.specs.Variables.{variables, AreNumberedFrom, IsNumberedInOrder}
 use Rattle.pm_store.specs.Equations.{Equations}
 use Rattle.pm_store.specs.Solutions.{Solves}
-use Rattle.pm_store.specs.Sound.{IsSound}
 use Rattle.pm_store.specs.Trees.{tree, Occurs, OccursAmong}
 use Rattle.pm_store.specs.Resolved.{with_variable, with_variables, with_variables_among, numbered}
 use Rattle.pm_store.proofs.TermLemmas.{fill_among-as_terms}
@@ -22,14 +20,14 @@ use Rattle.pm_store.proofs.NumberLemmas.{Contains-cases, Contains-later, Contain
 use Rattle.pm_store.proofs.OrderLemmas.{numbered_by_first_occurrence}
 use Rattle.pm_store.proofs.ListLemmas.{if_same, if_other, All-left, All-right}
 use Rattle.pm_run.specs.State.{CellLiteral, literal_under}
-use Rattle.pm_run.specs.InStore.{AreBelow, HasArgsBelow}
+use Rattle.pm_run.specs.InStore.{HasArgsBelow}
 use Rattle.pm_calculus.specs.Substitution.{put_in_literal, put_in_tableau, each_below, each_among, IsInstanceOf}
 use Rattle.pm_calculus.specs.Connection.{Level}
 use Rattle.pm_calculus.specs.Skeleton.{Skeletons, State, rooted, built, nodes_of}
 use Rattle.pm_calculus.specs.Alternatives.{state_after}
 use Rattle.pm_calculus.specs.Choices.{IsLabelling, IsGeneral}
 use Rattle.pm_machine.specs.State.{CellNode, MachineState}
-use Rattle.pm_machine.specs.Labels.{IsBuilt, entry_under, tableau_under}
+use Rattle.pm_machine.specs.Labels.{IsBuilt, entry_under}
 use Rattle.pm_machine.proofs.CellTrees.{CellTree, CellTrees, open_leaf, closed_leaf, grown, no_trees, more_trees, skeletons_of, nodes_in, all_nodes_in, node_over, nodes_over, all_entries_in, trees_from}
 use Rattle.pm_tab.specs.Numbered.{args_over, numbering, numbered_tree, numbered_tableau}
 use Rattle.pm_tab.proofs.Generals.{under_trees}

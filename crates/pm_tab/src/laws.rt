@@ -1,6 +1,6 @@
 //! The laws of general tableaux: each is what a function without a body ensures.
 ghost use Rattle.pm_tab.specs.Laws.{GeneralTableauxLabel, RegularityIsGeneral};
-ghost use Rattle.pm_tab.specs.StepLaws.{LabelledStepsAreHopeful, NumberedTableauxAreGeneral};
+ghost use Rattle.pm_tab.specs.StepLaws.{LabelledStepsAreHopeful, NumberedTableauxAreGeneral, StepsGrowStores, NewPairsTell, AlternativesStayWithin};
 
 /// The tableau of a machine's nodes, in which each free variable stands for itself, is a labelling
 /// of what the steps built, of which each labelling is an instance.
@@ -24,4 +24,20 @@ pub fn labelled_steps_are_hopeful()
 /// of the machine's nodes, its variables numbered by first occurrence.
 pub fn numbered_tableaux_are_general()
     ensures { NumberedTableauxAreGeneral }
+{}
+
+/// A step only adds to the store.
+pub fn steps_grow_stores()
+    ensures { StepsGrowStores }
+{}
+
+/// The pairs that tell of the nodes before a step whether a branch has a literal twice, and those of
+/// the new nodes with the branch above them, tell it of the nodes after the step.
+pub fn new_pairs_tell()
+    ensures { NewPairsTell }
+{}
+
+/// What an alternative after reached choices builds is within the level's bound, where a start is.
+pub fn alternatives_stay_within()
+    ensures { AlternativesStayWithin }
 {}

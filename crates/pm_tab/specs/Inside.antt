@@ -1,0 +1,3 @@
+-- Models of private code: no public contract names them.
+pub mod Counting
+pub mod Steps

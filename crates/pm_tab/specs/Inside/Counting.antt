@@ -1,0 +1,17 @@
+-- The alternatives of a machine's state as the code counts and finds them.
+use Rattle.std.specs.Prelude.{ℕ, ◌<◌, Bool, nat_lt, length}
+use Rattle.pm_logic.specs.declared.tableau.BoundKind.{BoundKind}
+use Rattle.pm_logic.specs.declared.tableau.BoundKind.TheVariants.{Depth, Inferences}
+use Rattle.pm_calculus.specs.Alternatives.{alternatives}
+use Rattle.pm_machine.specs.Value.{MachineValue, skeleton}
+use Rattle.pm_tab.specs.Searched.{Searched, level_of}
+
+-- there is room for an extension of a leaf at this depth, where there are so many instances
+abbrev pub has_room_for : BoundKind → ℕ → ℕ → ℕ → Bool
+has_room_for Depth instances depth bound = nat_lt depth bound
+has_room_for Inferences instances depth bound = nat_lt instances bound
+
+-- at some level this is the number of an alternative
+abbrev pub IsNumberAt : Searched → MachineValue → ℕ → Type 0
+IsNumberAt searched m k =
+    (level : ℕ) × (k < length (alternatives (level_of searched level) (skeleton m)))
