@@ -94,7 +94,11 @@ fn changed_lines(rt: HostRuntime) -> Result<(), Fail> {
     for (number, line, kind) in [
         (1, "% SZS status GaveUp", CertKind::Syntax),
         (3, "level 2 exhausted attempts 1", CertKind::Syntax),
-        (6, "level 4 proof attempts 18446744073709551616", CertKind::Syntax),
+        (
+            6,
+            "level 4 proof attempts 18446744073709551616",
+            CertKind::Syntax,
+        ),
         (7, huge.as_str(), CertKind::Counts),
         (7, padded.as_str(), CertKind::Syntax),
         (8, "b", CertKind::UnknownSymbol),
@@ -149,14 +153,32 @@ fn cut_documents(rt: HostRuntime) -> Result<(), Fail> {
     for (rest, number, kind) in [
         ("", 3, CertKind::Syntax),
         (line, 3, CertKind::Syntax),
-        ("parmel 1 class plain start all depth 0 terms 0 nodes 0\n", 3, CertKind::Counts),
-        ("parmel 1 class plain start all depth 0 terms 0 nodes 0\nroot 0\nend", 5, CertKind::Syntax),
-        ("parmel 1 class plain start all depth 0 terms 0 nodes 0\nroot 0\nend\n\n", 3, CertKind::Counts),
+        (
+            "parmel 1 class plain start all depth 0 terms 0 nodes 0\n",
+            3,
+            CertKind::Counts,
+        ),
+        (
+            "parmel 1 class plain start all depth 0 terms 0 nodes 0\nroot 0\nend",
+            5,
+            CertKind::Syntax,
+        ),
+        (
+            "parmel 1 class plain start all depth 0 terms 0 nodes 0\nroot 0\nend\n\n",
+            3,
+            CertKind::Counts,
+        ),
     ] {
         let text = format!(in rt.alloc(); "{head}{rest}")?;
-        assert_eq!(rt; refusal(rt.alloc(), NESTED_FILE, text.as_str())?, Some((number, kind)));
+        assert_eq!(rt;
+            refusal(rt.alloc(), NESTED_FILE, text.as_str())?,
+            Some((number, kind))
+        );
     }
-    assert_eq!(rt; refusal(rt.alloc(), NESTED_FILE, "")?, Some((1, CertKind::Syntax)));
+    assert_eq!(rt;
+        refusal(rt.alloc(), NESTED_FILE, "")?,
+        Some((1, CertKind::Syntax))
+    );
     Ok(())
 }
 
@@ -224,6 +246,9 @@ fn second_version(rt: HostRuntime) -> Result<(), Fail> {
     assert_eq!(rt; cert.size, 2);
     let first = "parmel 1 class plain start negative bound inferences size 3 terms 0 nodes 4";
     let text = with_line(rt.alloc(), INFERENCES, 6, first)?;
-    assert_eq!(rt; refusal(rt.alloc(), file, text.as_str())?, Some((6, CertKind::Syntax)));
+    assert_eq!(rt;
+        refusal(rt.alloc(), file, text.as_str())?,
+        Some((6, CertKind::Syntax))
+    );
     Ok(())
 }
