@@ -29,15 +29,12 @@ fn ends(rt: HostRuntime) -> Result<(), Fail> {
     Ok(())
 }
 
-// Whether the search ended with this proof of level 0.
-fn is_proof(outcome: Result<Outcome, AllocError>, list: &[u32], count: u64) -> bool {
-    match outcome {
-        Ok(
-            Outcome {
-                works,
-                end: DeepEnd::Proof { depth, path, work },
-            },
-        ) => works.is_empty() && depth == 0 && path.as_slice() == list && work == count,
+// Whether an end is this proof of level 0.
+fn is_proof(end: DeepEnd, list: &[u32], count: u64) -> bool {
+    match end {
+        DeepEnd::Proof { depth, path, work } => {
+            depth == 0 && path.as_slice() == list && work == count
+        }
         _ => false,
     }
 }
@@ -45,21 +42,10 @@ fn is_proof(outcome: Result<Outcome, AllocError>, list: &[u32], count: u64) -> b
 #[test]
 fn proved_by_workers(rt: HostRuntime) -> Result<(), Fail> {
     let maker = ToyMaker::new(2, 2, 3);
-    assert!(rt; is_proof(deepen_alone(rt.alloc(), &maker, 3, 6), &[1, 1], 6));
-    assert!(rt;
-        is_proof(
-            deepen(&rt, rt.alloc(), &maker, &OpenGate, 1, 3, 6),
-            &[1, 1],
-            6
-        )
-    );
-    assert!(rt;
-        is_proof(
-            deepen(&rt, rt.alloc(), &maker, &OpenGate, 4, 3, 6),
-            &[1, 1],
-            6
-        )
-    );
+    let Outcome { works: _, end } = deepen(&rt, rt.alloc(), &maker, &OpenGate, 1, 3, 6)?;
+    assert!(rt; is_proof(end, &[1, 1], 6));
+    let Outcome { works: _, end } = deepen(&rt, rt.alloc(), &maker, &OpenGate, 4, 3, 6)?;
+    assert!(rt; is_proof(end, &[1, 1], 6));
     Ok(())
 }
 
