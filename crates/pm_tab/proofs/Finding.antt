@@ -28,7 +28,7 @@ module _ (searched : Searched) (m : MachineValue) (view : LeafView) (shown : Vie
   pub depth_positive : 1 ≤ view.depth
   depth_positive = let d = seen.depth in omega (arith, d)
 
-  alternatives_are : (n : ℕ) → alternatives (level_of searched n) (skeleton m) ≡ alternatives_for (level_of searched n) (skeleton m) (Some goal)
+  pub alternatives_are : (n : ℕ) → alternatives (level_of searched n) (skeleton m) ≡ alternatives_for (level_of searched n) (skeleton m) (Some goal)
   alternatives_are n = rooted_leaf (level_of searched n) (skeleton m) goal own
 
   pub reduction_found : (n k : ℕ) → k < view.depth - 1 → slice_get (alternatives (level_of searched n) (skeleton m)) k ≡ Some (reduce (k + 1))
@@ -36,7 +36,7 @@ module _ (searched : Searched) (m : MachineValue) (view : LeafView) (shown : Vie
       ap (λ xs. slice_get xs k) (alternatives_are n)
       ∙ reduction_at (level_of searched n) (skeleton m) goal k (let d = seen.depth in omega (arith, d, lt))
 
-  heads_same : (ls : List Head) → ls ≡ heads (opposite_in view) searched.problem.clauses → heads (opposite goal.face) searched.problem.clauses ≡ ls
+  pub heads_same : (ls : List Head) → ls ≡ heads (opposite_in view) searched.problem.clauses → heads (opposite goal.face) searched.problem.clauses ≡ ls
   heads_same ls are = ap (λ f. heads f searched.problem.clauses) (sym (opposite_seen goal view seen)) ∙ sym are
 
   found : (n k : ℕ) → view.depth - 1 ≤ k → k < length (alternatives (level_of searched n) (skeleton m))

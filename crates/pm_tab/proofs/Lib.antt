@@ -9,3 +9,12 @@ pub mod Watching
 pub mod Taking
 pub mod Numbered
 pub mod Finding
+pub mod Adding
+pub mod Settling
+pub mod Noting
+pub mod Nested
+pub mod Drawn
+pub mod Small
+pub mod Within
+pub mod Passing
+pub mod Standing

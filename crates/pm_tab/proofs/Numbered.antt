@@ -128,7 +128,7 @@ module _ (trees general : ℕ → Term) (terms : List Term) where
         (nodes_put d ts (All-right IsPutNode (nodes_in d t) (all_nodes_in d ts) all))
 
 -- what holds of all arguments holds of each node's
-all_mapped : {A B : Type 0} (P : B → Type 0) (f : A → B) (xs : List A) → All P (map f xs) → All (λ x. P (f x)) xs
+pub all_mapped : {A B : Type 0} (P : B → Type 0) (f : A → B) (xs : List A) → All P (map f xs) → All (λ x. P (f x)) xs
 all_mapped P f [] all = All-nil (λ x. P (f x))
 all_mapped P f (x ∷ xs) all = All-cons (λ y. P (f y)) x xs (All-head P (f x) (map f xs) all) (all_mapped P f xs (All-tail P (f x) (map f xs) all))
 
@@ -200,7 +200,7 @@ module _ (level : Level) (path : List ℕ) (m : MachineState) (root : ℕ) (belo
             ∙ ap (put_in_tableau terms) (sym (under_trees (numbered_tree m) root m.nodes parts.0 parts.2)),
       )
 
-  preorder_is : preorder general ≡ map (entry_under (numbered_tree m)) m.nodes
+  pub preorder_is : preorder general ≡ map (entry_under (numbered_tree m)) m.nodes
   preorder_is =
       ap preorder (under_trees (numbered_tree m) root m.nodes parts.0 parts.2)
       ∙ all_entries_in (numbered_tree m) 1 parts.0 ∙ ap (map (entry_under (numbered_tree m))) (sym parts.2)

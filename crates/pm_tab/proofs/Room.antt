@@ -36,7 +36,7 @@ module _ (made : Subgoal → Skeleton) (subgoal : Subgoal) where
     leaf_below d above (closed face k) is own = absurd cc
     leaf_below d above (extended face c trees) is own = omega (arith, leaf_among (d + 1) (above ++ face ∷ []) trees (one_deeper d above face is) own)
 
-    leaf_among : (d : ℕ) (above : List Face) (ss : Skeletons) → d ≡ length above + 1 → selected_among above ss ≡ Some subgoal → depth_of subgoal + 1 ≤ d + tall_among ss
+    pub leaf_among : (d : ℕ) (above : List Face) (ss : Skeletons) → d ≡ length above + 1 → selected_among above ss ≡ Some subgoal → depth_of subgoal + 1 ≤ d + tall_among ss
     leaf_among d above no_skeletons is own = absurd cc
     leaf_among d above (more_skeletons s ss) is own =
         elim (which (is_closed_below s) (selected_among above ss) (selected_below above s) subgoal own) [

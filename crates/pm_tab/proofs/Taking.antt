@@ -21,7 +21,7 @@ use Rattle.pm_tab.proofs.Generals.{general_tableaux_label, regularity_is_general
 use Rattle.pm_tab.proofs.Room.{leaves_low, leaves_none, extension_within, reduction_within}
 
 -- what a step at an alternative's number is
-rooted_from : (clauses : List Clause) (state : State) (step : Step) → MayTake clauses state step → (root : ℕ) × (trees : Skeletons) × (after_step clauses state step ≡ rooted root trees)
+pub rooted_from : (clauses : List Clause) (state : State) (step : Step) → MayTake clauses state step → (root : ℕ) × (trees : Skeletons) × (after_step clauses state step ≡ rooted root trees)
 rooted_from clauses empty (start c) may = (c, leaves (literals_at clauses c), refl)
 rooted_from clauses empty (extend c j) may = absurd may
 rooted_from clauses empty (reduce k) may = absurd may

@@ -176,7 +176,7 @@ take_first : {A : Type 0} (xs ys : List A) → take (length xs) (xs ++ ys) ≡ x
 take_first [] ys = refl
 take_first (x ∷ xs) ys = ap (λ zs. x ∷ zs) (take_first xs ys)
 
-literal_is : (nodes : List CellNode) (place : ℕ) (node : CellNode) → slice_get nodes place ≡ Some node → literal_at nodes place ≡ node.literal
+pub literal_is : (nodes : List CellNode) (place : ℕ) (node : CellNode) → slice_get nodes place ≡ Some node → literal_at nodes place ≡ node.literal
 literal_is nodes place node is = ap (λ o. option_map_or (λ (n : CellNode). n.literal) o (record { positive = true; predicate = 0; args = [] })) is
 
 children_there : (d : ℕ) (children : List Child) → map (λ (node : CellNode). node.literal) (map (child_at d) children) ≡ map (λ (child : Child). child.literal) children
@@ -291,7 +291,7 @@ module _ (problem : Problem) (m new : MachineState) (valid : IsValid problem) (i
         )
 
   -- after a start nothing can repeat
-  begun_empty : (c : ℕ) → MayTake problem.clauses (built problem.clauses m.steps) (start c) → m.nodes ≡ []
+  pub begun_empty : (c : ℕ) → MayTake problem.clauses (built problem.clauses m.steps) (start c) → m.nodes ≡ []
   begun_empty c may = by (built problem.clauses m.steps) may is.shapes
     where
       by : (state : State) → MayTake problem.clauses state (start c) → map shape_of m.nodes ≡ nodes_of state → m.nodes ≡ []

@@ -1,9 +1,11 @@
 -- Which steps aren't hopeless at sight.
-use Rattle.std.specs.Prelude.{◌≡◌, ℕ, ◌<◌, ◌⊎◌, not, List, ⊤, option_map, slice_get}
+use Rattle.std.specs.Prelude.{◌≡◌, ℕ, ◌<◌, ◌≤◌, ◌⊎◌, not, List, length, ⊤, IsSomeAnd, option_map, slice_get}
 use Rattle.pm_logic.specs.Problem.{Clause}
 use Rattle.pm_store.specs.Equations.{Equations}
 use Rattle.pm_store.specs.Trees.{tree}
-use Rattle.pm_calculus.specs.Skeleton.{Step, start, extend, reduce}
+use Rattle.pm_calculus.specs.Connection.{Level}
+use Rattle.pm_calculus.specs.Skeleton.{Step, start, extend, reduce, built}
+use Rattle.pm_calculus.specs.Alternatives.{alternatives}
 use Rattle.pm_contra.specs.Index.{top, top_at}
 use Rattle.pm_run.specs.State.{CellLiteral}
 use Rattle.pm_machine.specs.State.{CellNode, MachineState, IsSelected, IsAncestorAt}
@@ -35,3 +37,18 @@ IsHopeful clauses m (extend c j) =
     → IsSelected m.nodes before leaf after → q < 4
     → MayMatch (cell_top m.equations leaf.literal q)
     (top_at clauses q (record { clause = c; literal = j }))
+
+-- the alternative of this number is hopeful
+abbrev pub IsHopefulAt : Level → MachineState → ℕ → Type 0
+IsHopefulAt level m k =
+    IsSomeAnd (slice_get (alternatives level (built level.problem.clauses m.steps)) k)
+    (IsHopeful level.problem.clauses m)
+
+-- the least alternative from a number on that is hopeful, or the width, where there is none
+pub record IsFirstHopeful (level : Level) (m : MachineState) (from first : ℕ) : Type 0 where
+  pub beyond : from ≤ first
+  pub within : first ≤ length (alternatives level (built level.problem.clauses m.steps))
+  pub passed : (k : ℕ) → from ≤ k → k < first → ¬ IsHopefulAt level m k
+  pub here :
+      first < length (alternatives level (built level.problem.clauses m.steps))
+      → IsHopefulAt level m first

@@ -5,4 +5,6 @@ pub mod Repeats
 pub mod Searched
 pub mod Laws
 pub mod StepLaws
+pub mod KeyLaws
+pub mod Space
 pub mod Inside

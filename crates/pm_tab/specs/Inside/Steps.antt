@@ -1,7 +1,15 @@
--- Steps as the code has them.
-use Rattle.std.specs.Prelude.{◌≡◌, Bool, true, false, []}
+-- Steps as the code has them, and what taking one answers.
+use Rattle.std.specs.Prelude.{◌≡◌, ℕ, ◌<◌, Bool, true, false, List, [], ◌∷◌, ◌++◌, Some, slice_get}
+use Rattle.pm_logic.specs.Tableau.{Tableau}
+use Rattle.pm_calculus.specs.Connection.{IsRegular, Level}
 use Rattle.pm_calculus.specs.Skeleton as calculus
-use Rattle.pm_machine.specs.Value.{MachineValue}
+use Rattle.pm_calculus.specs.Alternatives.{alternatives}
+use Rattle.pm_calculus.specs.Choices.{IsLabelling, HasLabelling}
+use Rattle.pm_diseq.specs.Notes.{Note}
+use Rattle.pm_machine.specs.Value.{MachineValue, IsTaken, skeleton}
+use Rattle.pm_tab.specs.Searched.{Searched}
+use Rattle.pm_tab.specs.StepLaws.{StartFits}
+use Rattle.pm_tab.specs.Inside.Watched.{Watches, WatchesFor}
 use Rattle.pm_tab.specs.declared.alternatives.Step.{Step}
 use Rattle.pm_tab.specs.declared.alternatives.Step.TheVariants.{Start, Extend, Reduce}
 
@@ -16,8 +24,53 @@ abbrev pub StartsFirst : Step → MachineValue → Type 0
 StartsFirst (Start clause) m = m.state.steps ≡ []
 StartsFirst step m = Unit {0}
 
--- the step gives a clause instance
-abbrev pub gives_instance : Step → Bool
-gives_instance (Start clause) = true
-gives_instance (Extend clause literal) = true
-gives_instance (Reduce ancestor) = false
+-- a start is with one of so many clauses
+abbrev pub StartsAmong : ℕ → Step → Type 0
+StartsAmong count (Start clause) = clause < count
+StartsAmong count step = Unit {0}
+
+-- a start builds what is within the level
+abbrev pub StepFits : Searched → ℕ → Step → Type 0
+StepFits searched level (Start clause) =
+    StartFits searched.kind level (calculus.literals_at searched.problem.clauses clause)
+StepFits searched level step = Unit {0}
+
+-- how many clause instances a step gives
+abbrev pub instances_given : calculus.Step → ℕ
+instances_given (calculus.start clause) = 1
+instances_given (calculus.extend clause literal) = 1
+instances_given (calculus.reduce ancestor) = 0
+
+-- at the level this is the alternative of some number
+abbrev pub IsAlternative : Level → MachineValue → Step → Type 0
+IsAlternative level m step =
+    (k : ℕ) × (slice_get (alternatives level (skeleton m)) k ≡ Some (step_named step))
+
+-- what is watched has grown from what was
+pub record GrewTo (pool new : List Note) : Type 0 where
+  pub more : List Note
+  pub is : new ≡ pool ++ more
+
+-- what the machine's steps and one more build
+abbrev pub built_with : MachineValue → Step → calculus.State
+built_with m step = calculus.built m.problem.clauses (m.state.steps ++ step_named step ∷ [])
+
+-- Where a step is taken, what is watched tells of the new nodes, and no branch has a literal twice.
+-- Where it isn't, no labelling of what it would build is regular.
+abbrev pub TakesRegularly : Step → MachineValue → MachineValue → List Note → List Note → Bool
+    → Type 0
+TakesRegularly step old new pool grown true =
+    IsTaken (step_named step) old new × Watches new.state grown × GrewTo pool grown
+TakesRegularly step old new pool grown false =
+    (new ≡ old) × (grown ≡ pool)
+    × ((tableau : Tableau) → IsLabelling old.problem.clauses (built_with old step) tableau
+    → ¬ IsRegular tableau)
+
+-- where a step is taken, what was built has a labelling at the level, and else it would have none
+abbrev pub TakesWithin : Level → Step → MachineValue → MachineValue → List Note → List Note → Bool
+    → Type 0
+TakesWithin level step old new pool grown true =
+    IsTaken (step_named step) old new × HasLabelling level (built_with old step)
+    × WatchesFor level.class new.state grown × GrewTo pool grown
+TakesWithin level step old new pool grown false =
+    (new ≡ old) × (grown ≡ pool) × ¬ HasLabelling level (built_with old step)
