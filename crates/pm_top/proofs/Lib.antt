@@ -2,16 +2,6 @@ pub mod TextLemmas
 pub mod Certificates
 pub mod Puts
 pub mod Runs
-pub mod Places
-pub mod Labels
-pub mod Opens
-pub mod Following
-pub mod Reached
 pub mod Searches
+pub mod Followed
 pub mod Determined
-pub mod Drawings
-pub mod DrawnPlaces
-pub mod DrawnSteps
-pub mod HeadLemmas
-pub mod PathLemmas
-pub mod StepLemmas

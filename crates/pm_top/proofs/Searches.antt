@@ -1,7 +1,8 @@
 -- How the search of a problem ends, and what follows of its answer.
 use Rattle.std.proofs.Common.{◌≡◌, ℕ, ◌<◌, inl, inr, List, length, Option, Some, None, IfSome, refl, ◌∙◌, ap, subst, arith}
 use Rattle.std.proofs.lemmas.Bool.{cases_lt}
-use Rattle.pm_logic.specs.declared.problem.Start.{Start as Rule}
+use Rattle.pm_logic.specs.declared.problem.Class.TheVariants.{Plain}
+use Rattle.pm_logic.specs.declared.tableau.BoundKind.TheVariants.{Depth}
 use Rattle.pm_logic.specs.declared.problem.Start.TheVariants.{Negative}
 use Rattle.pm_logic.specs.Problem.{Problem}
 use Rattle.pm_logic.specs.Tableau.{Tableau, depth}
@@ -16,7 +17,8 @@ use Rattle.pm_deepen.specs.Answer.{AreExhausted, IsAnswer}
 use Rattle.pm_deepen.specs.Levels.{key_of, IsAnswerOf}
 use Rattle.pm_top.specs.declared.status.Status.{Status}
 use Rattle.pm_top.specs.declared.status.Status.TheVariants as ends
-use Rattle.pm_top.specs.Spaces.{depth_level}
+use Rattle.pm_tab.specs.Searched.{Searched}
+use Rattle.pm_tab.specs.Searched.{level_of as searched_level}
 use Rattle.pm_top.specs.Text.{gave_up, resource_out}
 use Rattle.pm_top.specs.Certificate.{proof_text}
 use Rattle.pm_top.specs.Run.{standard, level_of, status_of, text_of, IsProofAt, EndsSearch}
@@ -74,43 +76,37 @@ search_ends problem works end tableau status text h status_is text_is = record {
   proved = proved_tableau problem works end tableau h;
 }
 
--- the answer of the search of a calculus, which is one of the problem with the start rule of every run
-pub answer_of : (problem given : Problem) (start : Rule) (works : List ℕ) (end : DeepEnd) → given ≡ problem → start ≡ Negative
-    → IsAnswer (λ bound. key_of (depth_level given start bound)) 30 1000000 works end → IsAnswer (λ bound. key_of (level_of problem bound)) 30 1000000 works end
-answer_of problem given start works end same negative h =
-    subst (λ (p : Problem). IsAnswer (λ bound. key_of (depth_level p Negative bound)) 30 1000000 works end) same
-    (subst (λ (r : Rule). IsAnswer (λ bound. key_of (depth_level given r bound)) 30 1000000 works end) negative h)
+-- the search of all that is searched of the problem
+abbrev searched_of : Problem → Searched
+searched_of problem = record { problem = problem; class = Plain; start = Negative; kind = Depth }
 
-pub ends_depth : (problem given : Problem) (start : Rule) (works shown : List ℕ) (end : DeepEnd) (text : List ℕ) → given ≡ problem → start ≡ Negative
-    → IsAnswer (λ bound. key_of (depth_level given start bound)) 30 1000000 works end → end ≡ DepthReached → shown ≡ works → text ≡ gave_up shown
-    → EndsSearch problem ends.DepthReached text
-ends_depth problem given start works shown end text same negative h is shown_is text_is =
-    search_ends problem works DepthReached None ends.DepthReached text
-    (record {
-      search = subst (λ (e : DeepEnd). IsAnswer (λ bound. key_of (level_of problem bound)) 30 1000000 works e) is (answer_of problem given start works end same negative h);
-      goes = tt;
-    })
-    refl (text_is ∙ ap gave_up shown_is)
+module _ (problem : Problem) (searched : Searched) (is : searched ≡ searched_of problem) (works shown : List ℕ) (shown_is : shown ≡ works) where
+  answer_of : (end : DeepEnd) → IsAnswer (λ bound. key_of (searched_level searched bound)) 30 1000000 works end
+      → IsAnswer (λ bound. key_of (level_of problem bound)) 30 1000000 works end
+  answer_of end h = subst (λ (s : Searched). IsAnswer (λ bound. key_of (searched_level s bound)) 30 1000000 works end) is h
 
-pub ends_budget : (problem given : Problem) (start : Rule) (works shown : List ℕ) (end : DeepEnd) (level : ℕ) (text : List ℕ) → given ≡ problem → start ≡ Negative
-    → IsAnswer (λ bound. key_of (depth_level given start bound)) 30 1000000 works end → end ≡ BudgetOut level → shown ≡ works → text ≡ resource_out shown
-    → EndsSearch problem ends.Budget text
-ends_budget problem given start works shown end level text same negative h is shown_is text_is =
-    search_ends problem works (BudgetOut level) None ends.Budget text
-    (record {
-      search = subst (λ (e : DeepEnd). IsAnswer (λ bound. key_of (level_of problem bound)) 30 1000000 works e) is (answer_of problem given start works end same negative h);
-      goes = tt;
-    })
-    refl (text_is ∙ ap resource_out shown_is)
+  pub ends_depth : (end : DeepEnd) (text : List ℕ) → IsAnswer (λ bound. key_of (searched_level searched bound)) 30 1000000 works end
+      → end ≡ DepthReached → text ≡ gave_up shown → EndsSearch problem ends.DepthReached text
+  ends_depth end text h ended text_is =
+      search_ends problem works DepthReached None ends.DepthReached text
+      (record { search = subst (λ (e : DeepEnd). IsAnswer (λ bound. key_of (level_of problem bound)) 30 1000000 works e) ended (answer_of end h); goes = tt })
+      refl (text_is ∙ ap gave_up shown_is)
 
-pub ends_proof : (problem given : Problem) (start : Rule) (works shown : List ℕ) (end : DeepEnd) (level work : ℕ) (path taken : List ℕ) (t : Tableau) (text : List ℕ)
-    → given ≡ problem → start ≡ Negative → IsAnswer (λ bound. key_of (depth_level given start bound)) 30 1000000 works end → end ≡ Proof level path work → shown ≡ works
-    → taken ≡ path → IsGeneral (depth_level given start level) taken t → text ≡ proof_text given.symbols t shown work → EndsSearch problem ends.Done text
-ends_proof problem given start works shown end level work path taken t text same negative h is shown_is taken_is general text_is =
-    let moved = subst (λ (p : Problem). IsGeneral (depth_level p Negative level) taken t) same (subst (λ (r : Rule). IsGeneral (depth_level given r level) taken t) negative general) in
-    search_ends problem works (Proof level path work) (Some t) ends.Done text
-    (record {
-      search = subst (λ (e : DeepEnd). IsAnswer (λ bound. key_of (level_of problem bound)) 30 1000000 works e) is (answer_of problem given start works end same negative h);
-      goes = subst (λ (choices : List ℕ). IsGeneral (level_of problem level) choices t) taken_is moved;
-    })
-    refl (text_is ∙ ap (λ (ws : List ℕ). proof_text given.symbols t ws work) shown_is ∙ ap (λ (p : Problem). proof_text p.symbols t works work) same)
+  pub ends_budget : (end : DeepEnd) (level : ℕ) (text : List ℕ) → IsAnswer (λ bound. key_of (searched_level searched bound)) 30 1000000 works end
+      → end ≡ BudgetOut level → text ≡ resource_out shown → EndsSearch problem ends.Budget text
+  ends_budget end level text h ended text_is =
+      search_ends problem works (BudgetOut level) None ends.Budget text
+      (record { search = subst (λ (e : DeepEnd). IsAnswer (λ bound. key_of (level_of problem bound)) 30 1000000 works e) ended (answer_of end h); goes = tt })
+      refl (text_is ∙ ap resource_out shown_is)
+
+  pub ends_proof : (end : DeepEnd) (level work : ℕ) (path taken : List ℕ) (t : Tableau) (text : List ℕ)
+      → IsAnswer (λ bound. key_of (searched_level searched bound)) 30 1000000 works end → end ≡ Proof level path work
+      → taken ≡ path → IsGeneral (searched_level searched level) taken t → text ≡ proof_text problem.symbols t shown work → EndsSearch problem ends.Done text
+  ends_proof end level work path taken t text h ended taken_is general text_is =
+      search_ends problem works (Proof level path work) (Some t) ends.Done text
+      (record {
+        search = subst (λ (e : DeepEnd). IsAnswer (λ bound. key_of (level_of problem bound)) 30 1000000 works e) ended (answer_of end h);
+        goes = subst (λ (choices : List ℕ). IsGeneral (level_of problem level) choices t) taken_is
+            (subst (λ (s : Searched). IsGeneral (searched_level s level) taken t) is general);
+      })
+      refl (text_is ∙ ap (λ (ws : List ℕ). proof_text problem.symbols t ws work) shown_is)

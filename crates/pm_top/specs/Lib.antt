@@ -1,10 +1,4 @@
-pub mod Goals
-pub mod GoalViews
-pub mod KeyLaws
-pub mod Spaces
 pub mod Arguments
-pub mod Drawn
-pub mod Drawing
 pub mod Status
 pub mod Text
 pub mod Certificate

@@ -1,12 +1,9 @@
 //! The top call: what the program does with its words, its files and its output.
 #![tactic(auto)]
 
-mod calculus;
 mod certificate;
-mod drawing;
 mod put;
 mod run;
-mod space;
 mod status;
 mod texts;
 mod words;

@@ -6,15 +6,12 @@ ghost use Rattle.pm_outside.specs.Outside.{CountsOnly, Rose};
 ghost use Rattle.pm_cnf.specs.Refusals.{Refuses};
 ghost use Rattle.pm_top.specs.JobWords.{job_of};
 ghost use Rattle.pm_top.specs.JobViews.{job_view};
-ghost use Rattle.pm_logic.specs.Tableau.{Tableau};
 ghost use Rattle.pm_calculus.specs.Choices.{IsComplete, IsGeneral};
-ghost use Rattle.pm_top.specs.Certificate.{proof_text};
 ghost use Rattle.pm_top.specs.Arguments.{HasNoArguments};
-ghost use Rattle.pm_top.specs.Spaces.{depth_level};
+ghost use Rattle.pm_tab.specs.Searched.{level_of};
 ghost use Rattle.pm_top.specs.Inside.Faults.{fault_status};
 ghost use Rattle.pm_top.specs.Run.{Output, OutputIsDetermined, HasWritten, EndsJob, EndsProof, EndsClauses, EndsSearch, IsRefusal, IsMissing, standard_limits};
 
-use crate::calculus::Calculus;
 use crate::certificate::proof;
 use crate::put::put_text;
 use crate::status::Status;
@@ -22,8 +19,10 @@ use crate::texts::{arguments_not_built, bad_words, gave_up, input_error, resourc
 use crate::words::{Job, job_of};
 use pm_cnf::{CnfError, Limits, read, write};
 use pm_deepen::{DeepEnd, Outcome, deepen_alone};
-use pm_logic::{Clause, Problem, Start};
+use pm_logic::{BoundKind, Class, Clause, Problem, Start, Tableau};
 use pm_outside::{FetchFault, Library, Sink};
+use pm_space::{Maker, Space};
+use pm_tab::TabMaker;
 use std::alloc::{AllocError, Global};
 
 /// How many bytes a clause file has at most.
@@ -73,36 +72,37 @@ impl Fault {
     }
 }
 
-// The text for a search that found this complete list at a level, after the exhausted ones: the
-// list's general tableau as a certificate.
-fn found_text(
+// The general tableau of a complete list at a level.
+fn general_tableau(
     alloc: Global,
-    calculus: &Calculus<'_>,
+    maker: &TabMaker<'_>,
     level: u32,
     path: &[u32],
-    works: &[u64],
-    work: u64,
-) -> Result<Vec<u8>, AllocError>
+) -> Result<Tableau, AllocError>
     requires level { level ≤ 250 }
-    requires complete { IsComplete
-        (depth_level calculus.now.problem.now calculus.now.start level) path.now }
-    ensures { IfOk result (λ text.
-        (tableau : Tableau)
-        × IsGeneral (depth_level calculus.now.problem.now calculus.now.start level) path.now
-        tableau
-        × (text.items ≡ proof_text calculus.now.problem.now.symbols tableau works.now work)) }
+    requires complete { IsComplete (level_of maker.now level) path.now }
+    ensures { IfOk result
+        (λ drawn. IsGeneral (level_of maker.now level) path.now drawn.tableau) }
 {
-    let tableau = calculus.general_tableau(alloc, level, path)?;
-    proof(alloc, calculus.problem(), &tableau, works, work)
+    let mut space = maker.make(alloc, level)?;
+    'choices: for &choice in path {
+        space.step(choice)?;
+    }
+    space.tableau(alloc)
 }
 
 // Searches the tableaux of a problem whose predicates have no arguments, level by level.
 fn search(alloc: Global, problem: &Problem) -> Result<Answer, AllocError>
-    requires { HasNoArguments problem.now }
     ensures { IfOk result (λ answer. EndsSearch problem.now answer.status answer.text.items) }
 {
-    let calculus = Calculus::new(alloc, problem, Start::Negative)?;
-    let Outcome { works, end } = deepen_alone(alloc, &&calculus, DEPTH, BUDGET)?;
+    let maker = TabMaker::new(
+        alloc,
+        problem,
+        Class::Plain,
+        Start::Negative,
+        BoundKind::Depth,
+    )?;
+    let Outcome { works, end } = deepen_alone(alloc, &&maker, DEPTH, BUDGET)?;
     match end {
         DeepEnd::DepthReached => Ok(Answer {
             status: Status::DepthReached,
@@ -112,10 +112,13 @@ fn search(alloc: Global, problem: &Problem) -> Result<Answer, AllocError>
             status: Status::Budget,
             text: resource_out(alloc, &works)?,
         }),
-        DeepEnd::Proof { depth, path, work } => Ok(Answer {
-            status: Status::Done,
-            text: found_text(alloc, &calculus, depth, path.as_slice(), &works, work)?,
-        }),
+        DeepEnd::Proof { depth, path, work } => {
+            let tableau = general_tableau(alloc, &maker, depth, path.as_slice())?;
+            Ok(Answer {
+                status: Status::Done,
+                text: proof(alloc, problem, &tableau, &works, work)?,
+            })
+        }
     }
 }
 
