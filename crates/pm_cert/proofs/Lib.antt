@@ -1,0 +1,6 @@
+pub mod TermLemmas
+pub mod RowLemmas
+pub mod ListingLemmas
+pub mod LineLemmas
+pub mod NodeLemmas
+pub mod DocumentLemmas

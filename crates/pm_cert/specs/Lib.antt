@@ -1,0 +1,4 @@
+pub mod Terms
+pub mod Ancestors
+pub mod Text
+pub mod Inside
