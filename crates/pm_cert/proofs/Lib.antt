@@ -4,3 +4,5 @@ pub mod ListingLemmas
 pub mod LineLemmas
 pub mod NodeLemmas
 pub mod DocumentLemmas
+pub mod ExampleLemmas
+pub mod DeterminedLemmas

@@ -2,3 +2,4 @@
 pub mod Listing
 pub mod Lines
 pub mod Nodes
+pub mod Example

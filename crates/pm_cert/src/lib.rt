@@ -3,8 +3,13 @@
 
 mod document;
 mod head;
+mod laws;
 mod lines;
 mod list;
 mod nodes;
 
 pub use document::write_cert;
+pub use laws::documents_are_determined;
+
+#[cfg(test)]
+mod tests;
