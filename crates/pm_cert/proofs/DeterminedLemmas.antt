@@ -1,21 +1,20 @@
 -- A tableau and a report have one certificate.
-use Rattle.std.proofs.Common.{◌≡◌, ◌⊎◌, inl, inr, ℕ, ◌+◌, ◌<◌, ◌≤◌, Bool, List, [], ◌∷◌, ◌++◌, Option, Some, None, length, map, get_or, refl, sym, ap, ap₂, subst, ◌∙◌, arith}
+use Rattle.std.proofs.Common.{◌≡◌, ◌⊎◌, inl, inr, ℕ, ◌+◌, ◌<◌, ◌≤◌, Bool, List, [], ◌∷◌, Some, map, refl, sym, ap, ap₂, subst, ◌∙◌, arith}
 use Rattle.std.specs.Prelude.{slice_get}
-use Rattle.std.specs.List.{All, AllZip}
-use Rattle.std.specs.Option.{IsSomeAnd}
+use Rattle.std.specs.List.{AllZip}
 use Rattle.std.proofs.lemmas.Bool.{cases_lt}
 use Rattle.std.proofs.lemmas.Option.{slice_get_within}
 use Rattle.pm_logic.specs.declared.tableau.NodeKind.{NodeKind}
 use Rattle.pm_logic.specs.declared.tableau.NodeKind.TheVariants.{Leaf, Inner}
-use Rattle.pm_logic.specs.Lists.{AreDistinct, Gathers}
+use Rattle.pm_logic.specs.Lists.{AreDistinct}
 use Rattle.pm_logic.specs.Problem.{Symbol, Literal}
 use Rattle.pm_logic.specs.Tableau.{Tableau}
 use Rattle.pm_logic.specs.Term.{Term, var, app, list_of}
 use Rattle.pm_logic.proofs.Gathering.{Gathers-same, Gathers-distinct}
-use Rattle.pm_certread.specs.Lines.{Line, text_of, application_line, Ending, closed_by, extended_by, NodeLine, node_line}
-use Rattle.pm_cert.specs.Ancestors.{PlacedNode, placed_nodes, IsComplementaryAt, IsCloser}
+use Rattle.pm_certread.specs.Lines.{Line, text_of, application_line, Ending, closed_by, NodeLine}
+use Rattle.pm_cert.specs.Ancestors.{PlacedNode, placed_nodes, IsCloser}
 use Rattle.pm_cert.specs.Terms.{terms_in_order, AreListed, ArePlacesOf}
-use Rattle.pm_cert.specs.Text.{SearchReport, IsTermLine, IsEndingOf, IsLineOf, document_lines, IsDocument}
+use Rattle.pm_cert.specs.Text.{IsTermLine, IsEndingOf, IsLineOf, document_lines}
 use Rattle.pm_cert.specs.Laws.{DocumentsAreDetermined}
 
 none_distinct : AreDistinct {A = Term} []

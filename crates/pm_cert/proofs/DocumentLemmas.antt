@@ -1,17 +1,16 @@
 -- A tableau over symbols, and its list of terms.
-use Rattle.std.proofs.Common.{◌≡◌, ◌⊎◌, inl, inr, ℕ, ◌+◌, ◌<◌, List, [], ◌∷◌, ◌++◌, Option, Some, None, length, map, refl, sym, ap, ap₂, subst, ◌∙◌, append_assoc, arith, codes}
+use Rattle.std.proofs.Common.{◌≡◌, ◌⊎◌, inl, inr, ℕ, ◌<◌, List, [], ◌∷◌, ◌++◌, Option, Some, None, length, map, refl, sym, ap, ap₂, subst, ◌∙◌, append_assoc, codes}
 use Rattle.std.specs.Prelude.{slice_get, slice_index_or}
 use Rattle.std.specs.List.{All, Contains, flat_map}
 use Rattle.std.specs.Option.{IsSomeAnd}
-use Rattle.std.proofs.lemmas.List.{append-nil}
-use Rattle.std.proofs.lemmas.List.Elements.{All-nil, All-cons, All-head, All-tail, All-append, All-weaker, Contains-append_left, Contains-append_right, Contains-push}
+use Rattle.std.proofs.lemmas.List.Elements.{All-nil, All-cons, All-head, All-tail, All-append, All-weaker, Contains-append_left, Contains-push}
 use Rattle.std.proofs.lemmas.Option.{slice_get_within}
 use Rattle.pm_logic.specs.declared.symbols.Kind.{Kind}
 use Rattle.pm_logic.specs.declared.symbols.Kind.TheVariants.{Predicate, Equality}
 use Rattle.pm_logic.specs.Lists.{Gathers}
-use Rattle.pm_logic.specs.Problem.{Symbol, Literal, HasShape, IsTermOver, AreTermsOver, IsLiteralOver}
+use Rattle.pm_logic.specs.Problem.{Symbol, HasShape, IsTermOver, AreTermsOver, IsLiteralOver}
 use Rattle.pm_logic.specs.Tableau.{Entry, Tableau, preorder, size}
-use Rattle.pm_logic.specs.Term.{Term, Terms, var, app, no_terms, more_terms, as_terms, list_of}
+use Rattle.pm_logic.specs.Term.{Term, Terms, var, app, no_terms, more_terms, as_terms}
 use Rattle.pm_logic.proofs.Gathering.{Gathers-all, Gathers-extends}
 use Rattle.pm_logic.proofs.TableLemmas.{list_of-as_terms}
 use Rattle.pm_calculus.specs.Connection.{IsOverSymbols}
@@ -22,7 +21,7 @@ use Rattle.pm_cert.specs.Terms.{subterms, subterms_among, terms_in, terms_in_ord
 use Rattle.pm_cert.specs.Text.{SearchReport, header_of, header_line, document_lines}
 use Rattle.pm_cert.specs.Inside.Lines.{IsWritableTerm, described}
 use Rattle.pm_cert.specs.Inside.Listing.{HasArgsIn, FollowArgs}
-use Rattle.pm_cert.proofs.TermLemmas.{follow-append, follow-closed, subterms_among-follow, gathered-follow, args_among}
+use Rattle.pm_cert.proofs.TermLemmas.{follow-append, subterms_among-follow, gathered-follow, args_among}
 
 -- a shape is that of a symbol of the list
 pub shape_there : (symbols : List Symbol) (number : ℕ) (kind : Kind) (arity : ℕ) → HasShape symbols number kind arity → number < length symbols

@@ -6,3 +6,6 @@ pub mod NodeLemmas
 pub mod DocumentLemmas
 pub mod ExampleLemmas
 pub mod DeterminedLemmas
+pub mod PlainLemmas
+pub mod OrderLemmas
+pub mod ReadBackLemmas

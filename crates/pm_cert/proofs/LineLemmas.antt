@@ -1,14 +1,14 @@
 -- Lines as they are put together.
 use Rattle.std.proofs.Common.{◌≡◌, nat_lt, ℕ, zero, suc, ◌+◌, ◌<◌, ◌≤◌, ◌==◌, Bool, true, false, cond, List, [], ◌∷◌, ◌++◌, Option, Some, None, length, map, take, drop, get_or, codes, decimal, refl, sym, ap, ap₂, subst, ◌∙◌, append_assoc, arith, eqb-true}
 use Rattle.std.specs.Prelude.{slice_get}
-use Rattle.std.specs.List.{All, AllZip, Contains, position, position_or_len, join_with_byte}
+use Rattle.std.specs.List.{All, AllZip, Contains, position, position_or_len}
 use Rattle.std.specs.Option.{IsSomeAnd}
 use Rattle.std.proofs.lemmas.List.{append-nil, map-append, take_more, drop_more, drop_all, flat_map_more, length-map, get_or-map}
 use Rattle.std.proofs.lemmas.List.Sums.{passes_at_first}
 use Rattle.std.proofs.lemmas.Option.{slice_get-get_or}
 use borrow.Author.Tests.{ltb-true}
 use Rattle.pm_logic.specs.Problem.{Symbol}
-use Rattle.pm_logic.specs.Term.{Term, var, app, as_terms, list_of, tree_at}
+use Rattle.pm_logic.specs.Term.{Term, var, app, as_terms, tree_at}
 use Rattle.pm_logic.specs.Word.{written_symbol}
 use Rattle.pm_logic.proofs.TableLemmas.{list_of-as_terms}
 use Rattle.pm_certread.specs.Lines.{Line, ended, text_of, spaced, status_line, level_line, level_lines, level_lines_from, proof_line, variable_line, application_line}

@@ -1,11 +1,11 @@
 -- Steps of the walk that lists terms.
-use Rattle.std.proofs.Common.{◌≡◌, ◌⊎◌, inl, inr, ℕ, zero, suc, ◌+◌, ◌*◌, ◌<◌, ◌≤◌, ◌==◌, ◌||◌, Bool, true, false, cond, List, [], ◌∷◌, ◌++◌, Bor, length, map, take, get_or, refl, sym, ap, subst, ◌∙◌, append_assoc, arith, eqb-true, eq-eqb, true≢false}
-use Rattle.std.specs.List.{All, Contains, list_any, flat_map}
+use Rattle.std.proofs.Common.{◌≡◌, inl, inr, ℕ, zero, suc, ◌+◌, ◌*◌, ◌<◌, ◌==◌, ◌||◌, Bool, true, false, cond, List, [], ◌∷◌, ◌++◌, Bor, length, map, take, get_or, refl, sym, ap, subst, ◌∙◌, append_assoc, arith, eqb-true, eq-eqb, true≢false}
+use Rattle.std.specs.List.{All, Contains, list_any}
 use Rattle.std.proofs.lemmas.List.{append-nil, length-append, map-append, take_more, length-map, get_or-map}
 use Rattle.std.proofs.lemmas.List.Folds.{list_any_at}
-use Rattle.std.proofs.lemmas.List.Elements.{All-nil, All-cons, All-head, All-tail, All-append, All-push, Contains-append_left}
-use Rattle.pm_logic.specs.Lists.{AreDistinct, Gathers}
-use Rattle.pm_logic.specs.Term.{Term, var, app, as_terms, list_of, tree_at}
+use Rattle.std.proofs.lemmas.List.Elements.{All-nil, All-cons, All-head, All-tail, All-push}
+use Rattle.pm_logic.specs.Lists.{Gathers}
+use Rattle.pm_logic.specs.Term.{Term, var, app, as_terms, tree_at}
 use Rattle.pm_logic.proofs.Gathering.{Gathers-append}
 use Rattle.pm_cert.specs.declared.list.OpenTerm.{OpenTerm}
 use Rattle.pm_cert.specs.Terms.{subterms, subterms_among}

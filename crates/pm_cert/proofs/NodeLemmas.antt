@@ -1,10 +1,10 @@
 -- Nodes and their lines.
-use Rattle.std.proofs.Common.{◌≡◌, ◌↔◌, ◌⊎◌, inl, inr, ℕ, ◌+◌, ◌-◌, ◌<◌, ◌≤◌, not, Bool, true, false, IsTrue, true≢false, List, [], ◌∷◌, ◌++◌, Bor, Option, Some, None, length, map, take, drop, get_or, codes, decimal, refl, sym, ap, ap₂, subst, ◌∙◌, append_assoc, length-append, arith, below_more}
+use Rattle.std.proofs.Common.{◌≡◌, ◌↔◌, ℕ, ◌+◌, ◌-◌, ◌<◌, ◌≤◌, not, Bool, true, false, IsTrue, List, [], ◌∷◌, ◌++◌, Bor, Option, Some, length, map, take, drop, get_or, codes, decimal, refl, sym, ap, ap₂, subst, ◌∙◌, append_assoc, length-append, arith, below_more}
 use mathlib.Core.Bool.{beq}
 use Rattle.std.specs.Prelude.{slice_get}
 use Rattle.std.specs.List.{All, AllZip, Any, Contains}
 use Rattle.std.specs.Option.{IsSomeAnd}
-use Rattle.std.proofs.lemmas.List.{append-nil, map-append, length-map, get_or-map, take-map, drop_more, drop_all}
+use Rattle.std.proofs.lemmas.List.{append-nil, map-append, length-map, get_or-map, take-map, drop_more}
 use Rattle.std.proofs.lemmas.List.Elements.{All-nil, All-cons, All-head, All-tail, All-append, All-push, All-take}
 use Rattle.std.proofs.lemmas.Option.{slice_get-get_or}
 use Rattle.std.proofs.Math.Seq.{take-append_seam}
@@ -14,21 +14,20 @@ use Rattle.pm_logic.specs.declared.tableau.NodeKind.{NodeKind}
 use Rattle.pm_logic.specs.declared.tableau.NodeKind.TheVariants.{Leaf, Inner}
 use Rattle.pm_logic.specs.Lists.{AreDistinct}
 use Rattle.pm_logic.specs.Problem.{Symbol, Literal}
-use Rattle.pm_logic.specs.Term.{Term, var, tree_at}
+use Rattle.pm_logic.specs.Term.{Term, tree_at}
 use Rattle.pm_logic.specs.View.{HasRows, literal_of, entry_of}
 use Rattle.pm_logic.specs.Word.{written_symbol}
 use Rattle.pm_calculus.specs.Substitution.{AreComplementary}
 use Rattle.pm_calculus.specs.Connection.{IsClosedBelow, AreClosedBelow}
-use Rattle.pm_certread.specs.Lines.{ended, text_of, spaced, sign_word, Ending, closed_by, extended_by, ending_words, NodeLine, node_line}
+use Rattle.pm_certread.specs.Lines.{ended, text_of, spaced, sign_word, Ending, closed_by, extended_by, NodeLine, node_line}
 use Rattle.pm_logic.specs.Tableau.{Node, leaf, inner, Nodes, no_nodes, more_nodes, Entry, Tableau, preorder, preorder_of, preorder_among}
 use Rattle.pm_cert.specs.Ancestors.{PlacedNode, placed_below, placed_among, placed_nodes, IsComplementaryAt, IsCloser}
 use Rattle.pm_cert.specs.Terms.{ArePlacesOf}
 use Rattle.pm_cert.specs.Text.{IsEndingOf, IsLineOf}
 use Rattle.pm_cert.specs.Inside.Lines.{numbers_text}
-use Rattle.pm_cert.specs.Inside.Listing.{AreRows}
 use Rattle.pm_cert.specs.Inside.Nodes.{literals_on, IsClosedAt, IsWritableNode, front_text, ending_text, placed_from}
 use Rattle.pm_cert.proofs.RowLemmas.{same_row}
-use Rattle.pm_cert.proofs.LineLemmas.{text_of-append, term_places, args_there, all_zip_push}
+use Rattle.pm_cert.proofs.LineLemmas.{text_of-append, term_places, all_zip_push}
 
 -- ---- nodes in pre-order with their ancestors
 

@@ -1,7 +1,6 @@
 -- Rows of a table and their terms.
 use Rattle.std.proofs.Common.{◌≡◌, ◌↔◌, ◌==◌, IsTrue, Bool, ℕ, ◌<◌, List, length, map, get_or, Some, sym, ap, ◌∙◌, arith}
-use Rattle.std.specs.List.{All, Contains}
-use Rattle.std.specs.Prelude.{slice_get}
+use Rattle.std.specs.List.{Contains}
 use Rattle.std.specs.Cmp.Lexicographic.{pointwise, bytes_decides}
 use Rattle.std.proofs.lemmas.List.{length-map, get_or-map}
 use Rattle.std.proofs.lemmas.Option.{slice_get-get_or}

@@ -1,7 +1,15 @@
 //! What is true of written certificates.
-ghost use Rattle.pm_cert.specs.Laws.{DocumentsAreDetermined};
+ghost use Rattle.pm_cert.specs.Laws.{CertificatesReadBack, DocumentsAreDetermined};
 
 /// A tableau has one certificate over symbols beside a report of its search.
 pub fn documents_are_determined()
     ensures { DocumentsAreDetermined }
+{}
+
+/// What is written of a tableau reads as that tableau: one that is over a valid problem's symbols
+/// and clauses, of depth at most 250, with its variables numbered by first occurrence in pre-order,
+/// where all numbers are below 2^64. The certificate has the report's class, start rule and bound,
+/// the tableau's size, its terms in the order of their lines, and the closers of its leaves.
+pub fn certificates_read_back()
+    ensures { CertificatesReadBack }
 {}

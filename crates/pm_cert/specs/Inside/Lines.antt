@@ -1,5 +1,5 @@
 -- The parts of lines as the code writes them.
-use Rattle.std.specs.Prelude.{ℕ, ◌<◌, List, [], ◌∷◌, ◌++◌, All, Contains, length, codes, decimal}
+use Rattle.std.specs.Prelude.{ℕ, ◌<◌, List, ◌∷◌, ◌++◌, All, Contains, length, codes, decimal}
 use Rattle.std.specs.List.{flat_map}
 use Rattle.pm_logic.specs.declared.problem.Class.{Class}
 use Rattle.pm_logic.specs.declared.problem.Start.{Start}

@@ -1,5 +1,5 @@
 -- The lines of nodes as the code writes them.
-use Rattle.std.specs.Prelude.{◌≡◌, ℕ, ◌+◌, ◌-◌, ◌<◌, Bool, List, [], ◌∷◌, ◌++◌, All, Any, Contains, length, map, take, codes, decimal}
+use Rattle.std.specs.Prelude.{ℕ, ◌-◌, ◌<◌, Bool, List, [], ◌∷◌, ◌++◌, All, Any, Contains, length, map, take, codes, decimal}
 use Rattle.pm_logic.specs.declared.problem.Literal.{Literal as Rows}
 use Rattle.pm_logic.specs.declared.tableau.NodeKind.{NodeKind}
 use Rattle.pm_logic.specs.declared.tableau.NodeKind.TheVariants.{Leaf, Inner}

@@ -1,5 +1,5 @@
-use Rattle.std.proofs.Common.{◌≡◌, [], ◌∷◌, ◌++◌, ◌<◌, ◌∙◌, ℕ, List, length, map, refl, sym, ap, subst}
-use Rattle.std.specs.List.{All, AllZip, Contains}
+use Rattle.std.proofs.Common.{◌≡◌, [], ◌++◌, ◌∙◌, List, length, map, refl, sym, ap, subst}
+use Rattle.std.specs.List.{All, AllZip}
 use Rattle.std.proofs.lemmas.List.{length-map}
 use Rattle.pm_logic.specs.Problem.{Symbol}
 use Rattle.pm_logic.specs.Tableau.{preorder}

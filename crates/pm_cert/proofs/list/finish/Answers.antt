@@ -1,9 +1,9 @@
-use Rattle.std.proofs.Common.{◌≡◌, ◌<◌, ◌++◌, ◌∷◌, [], ℕ, List, length, sym, subst}
+use Rattle.std.proofs.Common.{◌<◌, ◌++◌, ◌∷◌, [], ℕ, List, length, sym, subst}
 use Rattle.pm_logic.specs.Term.{Term, tree_at}
 use Rattle.pm_cert.specs.Terms.{subterms}
-use Rattle.pm_cert.specs.Inside.Listing.{AreFinished, HasArgsIn, IsWithin}
+use Rattle.pm_cert.specs.Inside.Listing.{AreFinished, HasArgsIn}
 use Rattle.pm_cert.proofs.TermLemmas.{subterms-follow}
-use Rattle.pm_cert.proofs.ListingLemmas.{turn-close, turn-next, smaller-close, smaller-next, within-close, within-next, walk-end}
+use Rattle.pm_cert.proofs.ListingLemmas.{turn-close, turn-next, smaller-close, smaller-next, within-close, within-next}
 use Rattle.pm_cert.proofs.list.finish.Goals as goal
 
 pub terms-preserved-in_default-split_first : goal.terms-preserved-in_default-split_first

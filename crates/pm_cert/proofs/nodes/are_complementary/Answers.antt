@@ -1,4 +1,4 @@
-use Rattle.std.proofs.Common.{◌≡◌, ◌∙◌, ◌↔◌, IsTrue, sym, true≢false, eqb-true, List, ℕ, subst}
+use Rattle.std.proofs.Common.{◌∙◌, sym, true≢false, eqb-true}
 use Rattle.pm_cert.proofs.NodeLemmas.{complementary_told, opposite_sign}
 use Rattle.pm_cert.proofs.nodes.are_complementary.Goals as goal
 use Rattle.pm_cert.proofs.nodes.are_complementary.Goals.{then-literal-other, else-literal-other}

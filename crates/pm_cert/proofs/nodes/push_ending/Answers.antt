@@ -1,4 +1,3 @@
-use Rattle.std.proofs.Common.{sym, ap, ◌∙◌}
 use Rattle.pm_logic.specs.View.{literal_of}
 use Rattle.pm_cert.specs.Inside.Nodes.{literals_on}
 use Rattle.pm_cert.proofs.NodeLemmas.{leaf_told, inner_told}

@@ -1,11 +1,10 @@
-use Rattle.std.proofs.Common.{◌≡◌, ◌∙◌, ◌-◌, ◌+◌, ◌++◌, [], ◌∷◌, ℕ, List, Bor, length, map, take, drop, get_or, refl, sym, ap, subst, arith}
-use Rattle.std.specs.List.{All, Contains}
+use Rattle.std.proofs.Common.{◌≡◌, ◌∙◌, ◌-◌, ◌+◌, ◌++◌, [], ◌∷◌, ℕ, List, Bor, length, map, take, refl, sym, ap, subst}
+use Rattle.std.specs.List.{All}
 use Rattle.std.proofs.lemmas.List.{append-nil, length-map}
 use Rattle.std.proofs.lemmas.List.Elements.{All-nil}
 use Rattle.pm_logic.specs.declared.problem.Literal.{Literal as Rows}
 use Rattle.pm_logic.specs.declared.tableau.Node.{Node as RowNode}
 use Rattle.pm_logic.specs.Problem.{Literal}
-use Rattle.pm_logic.specs.Tableau.{Entry}
 use Rattle.pm_logic.specs.Term.{Term, tree_at}
 use Rattle.pm_logic.specs.View.{HasRows, literal_of, entry_of}
 use Rattle.pm_certread.specs.Lines.{Ending}
