@@ -23,6 +23,9 @@ none_distinct i j i_in j_in same = absurd (omega arith)
 pub listed_distinct : (tableau : Tableau) (terms : List Term) → AreListed tableau terms → AreDistinct terms
 listed_distinct tableau terms listed = Gathers-distinct (terms_in_order tableau) [] terms none_distinct listed
 
+pub listed_same : (tableau : Tableau) (terms others : List Term) → AreListed tableau terms → AreListed tableau others → terms ≡ others
+listed_same tableau terms others listed listed_too = Gathers-same (terms_in_order tableau) [] terms others listed listed_too
+
 -- terms that stand once have one place each
 pub same_places : (terms args : List Term) (ns ms : List ℕ) → AreDistinct terms → ArePlacesOf terms args ns → ArePlacesOf terms args ms → ns ≡ ms
 same_places terms [] [] [] distinct a b = refl
@@ -84,7 +87,7 @@ same_beside R one (x ∷ xs) (y ∷ ys) (z ∷ zs) a b = ap₂ (λ w ws. w ∷ w
 
 pub determined_document : DocumentsAreDetermined
 determined_document symbols report tableau text other a b =
-    let terms : a.terms ≡ b.terms = Gathers-same (terms_in_order tableau) [] a.terms b.terms a.listed b.listed in
+    let terms : a.terms ≡ b.terms = listed_same tableau a.terms b.terms a.listed b.listed in
     let distinct : AreDistinct b.terms = listed_distinct tableau b.terms b.listed in
     let a_lines : AllZip (IsTermLine symbols b.terms) b.terms a.term_lines = subst (λ (ts : List Term). AllZip (IsTermLine symbols ts) ts a.term_lines) terms a.lines_of_terms in
     let a_nodes : AllZip (IsLineOf symbols b.terms) (placed_nodes tableau) a.nodes = subst (λ (ts : List Term). AllZip (IsLineOf symbols ts) (placed_nodes tableau) a.nodes) terms a.lines_of_nodes in

@@ -23,6 +23,10 @@ pub record SearchReport : Type 0 where
   pub works : List ℕ
   pub last : ℕ
 
+abbrev pub report_of : Class → Start → BoundKind → List ℕ → ℕ → SearchReport
+report_of class start bound works last =
+    record { class = class; start = start; bound = bound; works = works; last = last }
+
 abbrev pub header_of : SearchReport → Tableau → List Term → Header
 header_of report tableau terms =
     record {
@@ -61,7 +65,8 @@ pub record IsLineOf (symbols : List Symbol) (terms : List Term) (placed : Placed
   pub numbers : ArePlacesOf terms placed.literal.args node.numbers
   pub ending : IsEndingOf placed.kind placed.above placed.literal node.ending
 
-abbrev pub document_lines : SearchReport → Tableau → List Term → List Line → List NodeLine → List Line
+abbrev pub document_lines :
+    SearchReport → Tableau → List Term → List Line → List NodeLine → List Line
 document_lines report tableau terms term_lines nodes =
     status_line ∷ level_lines report.works
     ++ proof_line (length report.works) report.last

@@ -3,7 +3,8 @@ ghost use Rattle.std.specs.Prelude.{◌≡◌, ◌++◌, IfOk, OnOk};
 ghost use Rattle.pm_logic.specs.Tableau.{size};
 ghost use Rattle.pm_certread.specs.Lines.{ended, root_line};
 ghost use Rattle.pm_calculus.specs.Connection.{IsClosed, IsOverSymbols};
-ghost use Rattle.pm_cert.specs.Text.{IsDocument};
+ghost use Rattle.pm_cert.specs.Laws.{HasSmallNumbers};
+ghost use Rattle.pm_cert.specs.Text.{IsDocument, report_of};
 
 use crate::head::{Header, push_header, push_levels};
 use crate::lines::{push_number, push_terms};
@@ -31,13 +32,10 @@ pub fn write_cert(
 ) -> Result<Vec<u8>, AllocError>
     requires closed { IsClosed tableau.now.tableau }
     requires symbols { IsOverSymbols problem.now.symbols tableau.now.tableau }
-    ensures { IfOk result (λ text. IsDocument problem.now.symbols (record {
-      class = class;
-      start = start;
-      bound = bound;
-      works = works.now;
-      last = last;
-    }) tableau.now.tableau text.items) }
+    ensures document { IfOk result (λ text. IsDocument problem.now.symbols
+        (report_of class start bound works.now last) tableau.now.tableau text.items) }
+    ensures numbers { OnOk result (HasSmallNumbers (report_of class start bound works.now last)
+        tableau.now.tableau) }
 {
     let symbols = problem.symbols();
     let list = list_terms(alloc, tableau)?;

@@ -1,5 +1,6 @@
 //! The lines of a certificate before its terms.
-ghost use Rattle.std.specs.Prelude.{◌≡◌, ◌++◌, ◌∷◌, [], OnOk, length};
+ghost use Rattle.std.specs.Prelude.{◌≡◌, ◌++◌, ◌∷◌, [], All, OnOk, length};
+ghost use Rattle.pm_certread.specs.Forms.{IsNumber};
 ghost use Rattle.pm_certread.specs.Lines.{class_word, ended, level_line, level_lines, proof_line, start_word, status_line, text_of};
 ghost use Rattle.pm_cert.specs.Inside.Lines.{described, search_text};
 ghost use Rattle.pm_cert.specs.Text.{header_line};
@@ -44,8 +45,12 @@ fn push_exhausted(text: &mut Vec<u8>, works: &[u64]) -> Result<(), AllocError>
 
 // Appends the status, a line for each exhausted level, and one for the level with the proof.
 pub(crate) fn push_levels(text: &mut Vec<u8>, works: &[u64], last: u64) -> Result<(), AllocError>
-    ensures { OnOk result (text.new.items ≡ text.old.items
-        ++ text_of (status_line ∷ level_lines works.now ++ proof_line (length works.now) last ∷ [])) }
+    ensures text { OnOk result (text.new.items ≡ text.old.items
+        ++ text_of (status_line ∷ level_lines works.now
+        ++ proof_line (length works.now) last ∷ [])) }
+    ensures levels { OnOk result (IsNumber (length works.now)) }
+    ensures works { OnOk result (All IsNumber works.now) }
+    ensures last { OnOk result (IsNumber last) }
 {
     text.extend_from_slice(b"% SZS status Unsatisfiable\n")?;
     push_exhausted(text, works)?;
@@ -97,8 +102,11 @@ fn push_search(text: &mut Vec<u8>, header: &Header) -> Result<(), AllocError>
 
 // Appends the header.
 pub(crate) fn push_header(text: &mut Vec<u8>, header: &Header) -> Result<(), AllocError>
-    ensures { OnOk result (text.new.items ≡ text.old.items
+    ensures text { OnOk result (text.new.items ≡ text.old.items
         ++ ended (header_line header.now.bound (described header.now))) }
+    ensures size { OnOk result (IsNumber header.now.size) }
+    ensures terms { OnOk result (IsNumber header.now.terms) }
+    ensures nodes { OnOk result (IsNumber header.now.nodes) }
 {
     push_search(text, header)?;
     push_number(text, header.size)?;

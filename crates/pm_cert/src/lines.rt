@@ -61,8 +61,8 @@ fn push_term(
     requires within { row < length terms.now }
     requires writable { IsWritableTerm symbols.now (map (tree_at terms.now) list.now.keys)
         (tree_at terms.now row) }
-    ensures { OnOk result ((line : Line)
-        × IsTermLine symbols.now (map (tree_at terms.now) list.now.keys) (tree_at terms.now row) line
+    ensures { let trees = map (tree_at terms.now) list.now.keys in
+        OnOk result ((line : Line) × IsTermLine symbols.now trees (tree_at terms.now row) line
         × (text.new.items ≡ text.old.items ++ ended line)) }
 {
     match terms.look(row) {

@@ -43,7 +43,8 @@ fn closer(terms: &TermTable, branch: &[&Literal], literal: &Literal) -> usize
     requires branch { All (λ l. HasRows (length terms.now) l.now) branch.now }
     requires closed { Any (AreComplementary (literal_of terms.now literal.now))
         (literals_on terms.now branch.now) }
-    ensures { IsCloser (literals_on terms.now branch.now) (literal_of terms.now literal.now) result }
+    ensures { IsCloser (literals_on terms.now branch.now) (literal_of terms.now literal.now)
+        result }
 {
     for (i, ancestor) in branch.iter().enumerate() {
         if are_complementary(terms, literal, *ancestor) {

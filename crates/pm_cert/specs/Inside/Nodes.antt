@@ -25,7 +25,8 @@ IsClosedAt (Inner clause) above literal = Unit {0}
 
 -- a node that can be written: its predicate is a symbol, its literal's arguments have lines, and a
 -- leaf is closed
-pub record IsWritableNode (symbols : List Symbol) (terms : List Term) (placed : PlacedNode) : Type 0 where
+pub record IsWritableNode (symbols : List Symbol) (terms : List Term) (placed : PlacedNode)
+    : Type 0 where
   pub predicate : placed.literal.predicate < length symbols
   pub args : All (Contains terms) placed.literal.args
   pub closed : IsClosedAt placed.kind placed.above placed.literal
@@ -33,7 +34,8 @@ pub record IsWritableNode (symbols : List Symbol) (terms : List Term) (placed : 
 -- the front of a node's line
 abbrev pub front_text : ℕ → Bool → Symbol → List ℕ → List ℕ
 front_text at_depth positive symbol numbers =
-    decimal at_depth ++ 32 ∷ sign_word positive ++ 32 ∷ written_symbol symbol ++ numbers_text numbers
+    decimal at_depth ++ 32 ∷ sign_word positive ++ 32 ∷ written_symbol symbol
+    ++ numbers_text numbers
 
 -- the end of a node's line
 abbrev pub ending_text : Ending → List ℕ

@@ -7,11 +7,13 @@ use Rattle.pm_logic.specs.Term.{Term, tree_at}
 use Rattle.pm_logic.specs.View.{entry_of}
 use Rattle.pm_certread.specs.Lines.{Line, NodeLine, node_line, text_of}
 use Rattle.pm_cert.specs.Ancestors.{placed_nodes}
-use Rattle.pm_cert.specs.Text.{SearchReport, IsTermLine, IsLineOf}
+use Rattle.pm_cert.specs.Text.{SearchReport, report_of, IsTermLine, IsLineOf}
 use Rattle.pm_cert.specs.Inside.Lines.{IsWritableTerm}
 use Rattle.pm_cert.specs.Inside.Nodes.{IsWritableNode}
 use Rattle.pm_cert.proofs.TermLemmas.{follow-closed}
 use Rattle.pm_cert.proofs.NodeLemmas.{writable_nodes}
+use Rattle.pm_certread.specs.Forms.{IsNumber}
+use Rattle.pm_cert.proofs.DeterminedLemmas.{listed_same}
 use Rattle.pm_cert.proofs.DocumentLemmas.{listed-follow, listed-over, listed-args, literal_predicates, writable-terms, header_told, document_told}
 use Rattle.pm_cert.proofs.document.write_cert.Goals as goal
 
@@ -36,13 +38,13 @@ push_nodes-requires-clause-writable c =
     subst (λ (ss : List Symbol). All (IsWritableNode ss trees) (placed_nodes tableau)) (sym c.symbols-symbols.ensures)
     (writable_nodes c.args.problem.now.symbols trees tableau c.requires.closed (λ k d lt. (predicates k d lt, args k d lt)))
 
-pub returns : goal.returns
-returns c =
+pub returns-clause-document : goal.returns-clause-document
+returns-clause-document c =
     let tableau = c.args.tableau.now.tableau in
     let symbols = c.args.problem.now.symbols in
     let keys = c.in_ok-list.list.keys in
     let trees : List Term = map (tree_at c.args.tableau.now.terms) keys in
-    let report : SearchReport = record { class = c.args.class; start = c.args.start; bound = c.args.bound; works = c.args.works.now; last = c.args.last } in
+    let report : SearchReport = report_of c.args.class c.args.start c.args.bound c.args.works.now c.args.last in
     let term_part : (lines : List Line) × AllZip (IsTermLine symbols trees) trees lines × (c.push_terms.new.text.items ≡ c.push_header.new.text.items ++ text_of lines) =
     subst (λ (ss : List Symbol). (lines : List Line) × AllZip (IsTermLine ss trees) trees lines × (c.push_terms.new.text.items ≡ c.push_header.new.text.items ++ text_of lines)) c.symbols-symbols.ensures
     (subst (λ (ts : List Term). (lines : List Line) × AllZip (IsTermLine c.symbols-symbols.result.now (map (tree_at ts) keys)) (map (tree_at ts) keys) lines × (c.push_terms.new.text.items ≡ c.push_header.new.text.items ++ text_of lines))
@@ -62,5 +64,21 @@ returns c =
       is =
           document_told report tableau trees term_part.0 node_part.0 _ c.root.result c.new-text.result.items c.push_levels.new.text.items c.push_header.new.text.items c.push_terms.new.text.items c.push_root.new.text.items c.push_nodes.new.text.items c.extend_from_slice.new.self.items
           (header_told report tableau trees _ refl refl refl c.size.ensures (c.len.ensures.len ∙ count) entries) c.root.ensures c.new-text.ensures.items
-          c.in_ok-push_levels.ensures c.in_ok-push_header.ensures term_part.2 c.in_ok-push_root.ensures node_part.2 c.in_ok-extend_from_slice.ensures.items;
+          c.in_ok-push_levels.ensures.text c.in_ok-push_header.ensures.text term_part.2 c.in_ok-push_root.ensures node_part.2 c.in_ok-extend_from_slice.ensures.items;
+    }
+
+pub returns-clause-numbers : goal.returns-clause-numbers
+returns-clause-numbers c =
+    let terms = c.args.tableau.now.terms in
+    let keys = c.in_ok-list.list.keys in
+    let entries : length c.nodes.result.now ≡ length (preorder c.args.tableau.now.tableau) = sym (length-map c.nodes.result.now (entry_of terms)) ∙ ap length c.nodes.ensures.nodes in
+    let count : c.len.result ≡ length (map (tree_at terms) keys) = c.len.ensures.len ∙ sym (length-map keys (tree_at terms)) in
+    record {
+      levels = c.in_ok-push_levels.ensures.levels;
+      works = c.in_ok-push_levels.ensures.works;
+      last = c.in_ok-push_levels.ensures.last;
+      size = subst IsNumber c.size.ensures c.in_ok-push_header.ensures.size;
+      terms = λ others listed.
+          subst (λ (ts : List Term). IsNumber (length ts)) (listed_same c.args.tableau.now.tableau (map (tree_at terms) keys) others c.in_ok-list.ensures.listed listed) (subst IsNumber count c.in_ok-push_header.ensures.terms);
+      nodes = subst IsNumber entries c.in_ok-push_header.ensures.nodes;
     }
