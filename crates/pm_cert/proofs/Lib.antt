@@ -9,3 +9,4 @@ pub mod DeterminedLemmas
 pub mod PlainLemmas
 pub mod OrderLemmas
 pub mod ReadBackLemmas
+pub mod CertifiableLemmas

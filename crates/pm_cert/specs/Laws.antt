@@ -5,7 +5,7 @@ use Rattle.pm_logic.specs.Problem.{Problem, Symbol, Literal, IsValid}
 use Rattle.pm_logic.specs.Tableau.{Tableau, depth, preorder, size}
 use Rattle.pm_logic.specs.Term.{Term}
 use Rattle.pm_logic.specs.Variables.{IsNumberedInOrder}
-use Rattle.pm_calculus.specs.Connection.{IsOverSymbols}
+use Rattle.pm_calculus.specs.Connection.{IsOverSymbols, Level, IsInClass}
 use Rattle.pm_certread.specs.Certificate.{Certificate}
 use Rattle.pm_certread.specs.Forms.{IsNumber}
 use Rattle.pm_certread.specs.Laws.{HasClauseOf}
@@ -32,6 +32,13 @@ pub record IsCertifiable (over : Problem) (tableau : Tableau) : Type 0 where
   pub clauses : All (λ entry. HasClauseOf (length over.clauses) entry.kind) (preorder tableau)
   pub shallow : depth tableau ≤ 250
   pub variables : IsNumberedInOrder tableau
+
+-- the proofs of a level can be certified, and so the general tableaux of its complete lists
+abbrev pub ProofsAreCertifiable : Type 0
+ProofsAreCertifiable =
+    (level : Level) (tableau : Tableau) → IsValid level.problem → level.bound ≤ 250
+    → IsInClass level tableau → IsOverSymbols level.problem.symbols tableau
+    → IsNumberedInOrder tableau → IsCertifiable level.problem tableau
 
 -- the numbers in a certificate are below 2^64
 pub record HasSmallNumbers (report : SearchReport) (tableau : Tableau) : Type 0 where

@@ -1,5 +1,5 @@
 //! What is true of written certificates.
-ghost use Rattle.pm_cert.specs.Laws.{CertificatesReadBack, DocumentsAreDetermined};
+ghost use Rattle.pm_cert.specs.Laws.{CertificatesReadBack, DocumentsAreDetermined, ProofsAreCertifiable};
 
 /// A tableau has one certificate over symbols beside a report of its search.
 pub fn documents_are_determined()
@@ -12,4 +12,11 @@ pub fn documents_are_determined()
 /// the tableau's size, its terms in the order of their lines, and the closers of its leaves.
 pub fn certificates_read_back()
     ensures { CertificatesReadBack }
+{}
+
+/// A tableau in the class of a level can be certified: one that is over the symbols of the level's
+/// valid problem, with its variables numbered by first occurrence in pre-order, where the level is
+/// at most 250.
+pub fn proofs_are_certifiable()
+    ensures { ProofsAreCertifiable }
 {}

@@ -9,7 +9,7 @@ mod list;
 mod nodes;
 
 pub use document::write_cert;
-pub use laws::{certificates_read_back, documents_are_determined};
+pub use laws::{certificates_read_back, documents_are_determined, proofs_are_certifiable};
 
 #[cfg(test)]
 mod tests;
