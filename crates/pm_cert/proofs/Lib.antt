@@ -1,0 +1,12 @@
+pub mod TermLemmas
+pub mod RowLemmas
+pub mod ListingLemmas
+pub mod LineLemmas
+pub mod NodeLemmas
+pub mod DocumentLemmas
+pub mod ExampleLemmas
+pub mod DeterminedLemmas
+pub mod PlainLemmas
+pub mod OrderLemmas
+pub mod ReadBackLemmas
+pub mod CertifiableLemmas

@@ -1,0 +1,5 @@
+-- Models of private code: no public contract names them.
+pub mod Listing
+pub mod Lines
+pub mod Nodes
+pub mod Example

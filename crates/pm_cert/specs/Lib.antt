@@ -1,0 +1,5 @@
+pub mod Terms
+pub mod Ancestors
+pub mod Text
+pub mod Laws
+pub mod Inside
