@@ -44,17 +44,6 @@ pub record IsMatched (source target : List Term) (literals : List Literal) (fami
   pub met : (terms : List Term) → Give source target terms matches → given_by terms source (take count literals) ≡ taken
   pub gives : (terms : List Term) → family ≡ given_by terms source literals → Give source target terms matches
 
-pub matched_none : (source target : List Term) (literals : List Literal) (family : List Written) (matches : List Match) → matches ≡ [] → IsMatched source target literals family matches 0 family
-matched_none source target literals family matches none = record {
-  taken = [];
-  whole = refl;
-  many = refl;
-  there = subst (AreThere (length source) (length target)) (sym none) (All-nil (λ (m : Match). (m.row < length source) × (m.image < length target)));
-  over = λ symbols vars all. subst (All (λ (m : Match). IsTermOver symbols vars (tree_at source m.row))) (sym none) (All-nil (λ (m : Match). IsTermOver symbols vars (tree_at source m.row)));
-  met = λ terms give. refl;
-  gives = λ terms same. subst (Give source target terms) (sym none) (All-nil (λ (m : Match). put terms (tree_at source m.row) ≡ tree_at target m.image));
-}
-
 -- ---- one more literal
 
 -- what gives the images gives the arguments

@@ -9,3 +9,4 @@ pub mod TreeLemmas
 pub mod LineLemmas
 pub mod VerdictLemmas
 pub mod PlaceLemmas
+pub mod ExampleLemmas

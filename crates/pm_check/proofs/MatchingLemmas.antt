@@ -96,22 +96,7 @@ apart_grows source target old new grow m (inr parts) = inr (record {
 
 -- ---- one row
 
-pub meets_again : (target : List Term) (old : List Match) (row image other : ℕ) (answer : Bool) → Contains old (sent row other)
-    → (IsTrue answer ↔ (tree_at target other ≡ tree_at target image))
-    → MatchBool answer (Meets target old old row image) (Clashes target old row image)
-meets_again target old row image other true there says = record { grow = inl refl; has = (other, there, says.0 refl) }
-meets_again target old row image other false there says = (other, there, λ same. let no_way : false ≡ true = says.1 same in cc)
-
-pub meets_new : (target : List Term) (old new : List Match) (row image : ℕ) → new ≡ old ++ sent row image ∷ [] → Meets target old new row image
-meets_new target old new row image is = record {
-  grow = inr is;
-  has = (image, subst (λ ms. Contains ms (sent row image)) (sym is) (Contains-push old (sent row image)), refl);
-}
-
 -- ---- rows and the images at their places
-
-pub meet_none : (target : List Term) (old : List Match) → MeetAll target old old [] []
-meet_none target old = record { grow = Grow-refl old; only = λ m there. inl there; has = tt }
 
 meets_grow : (target : List Term) (old new : List Match) (row image : ℕ) → Meets target old new row image → Grow old new
 meets_grow target old new row image meets = by meets.grow
@@ -184,10 +169,6 @@ none_give target old now n rows others row other all at_row at_other clash sourc
     let two : put terms (tree_at source row) ≡ tree_at target other = same_at (λ r. put terms (tree_at source r)) (tree_at target) rows others n row other same at_row at_other in
     clash.2 (sym one ∙ two)
 
-pub none_give_apart : (target : List Term) (old : List Match) (rows others : List ℕ) → (length rows ≡ length others → ⊥) → NoneGive target old rows others
-none_give_apart target old rows others apart source terms give same =
-    apart (omega (arith, ap length same, length-map rows (λ row. put terms (tree_at source row)), length-map others (tree_at target)))
-
 -- the new images are rows of the target
 pub images_there : (target : List Term) (old now : List Match) (n : ℕ) (rows others : List ℕ) → MeetAll target old now (take n rows) (take n others)
     → All (λ m. m.image < length target) old → All (λ other. other < length target) others → All (λ m. m.image < length target) now
@@ -219,35 +200,12 @@ args_given terms source target symbol other args others same =
 given_at : (source target terms : List Term) (old : List Match) (m : Match) → Give source target terms old → Contains old m → put terms (tree_at source m.row) ≡ tree_at target m.image
 given_at source target terms old m give there = All-contains (λ m. put terms (tree_at source m.row) ≡ tree_at target m.image) old m give there
 
-pub adds_none : (source target : List Term) (old : List Match) → AreThere (length source) (length target) old → Adds source target old old
-adds_none source target old there = record { grow = Grow-refl old; there = there; over = λ symbols vars over. over }
-
 pub adds_trans : (source target : List Term) (a b c : List Match) → Adds source target a b → Adds source target b c → Adds source target a c
 adds_trans source target a b c first second = record {
   grow = Grow-trans a b c first.grow second.grow;
   there = second.there;
   over = λ symbols vars over. second.over symbols vars (first.over symbols vars over);
 }
-
-pub apart_variable : (source target : List Term) (old : List Match) (m : Match) (n : ℕ) → AreThere (length source) (length target) old → tree_at source m.row ≡ var n → TakesApart source target old old m
-apart_variable source target old m n there is = record {
-  adds = adds_none source target old there;
-  apart = inl (n, is);
-  gives = λ terms give. give;
-}
-
--- an application gives no variable
-pub none_variable : (source target : List Term) (old : List Match) (m : Match) (symbol n : ℕ) (args : List ℕ) → Contains old m
-    → tree_at source m.row ≡ app symbol (as_terms (map (tree_at source) args)) → tree_at target m.image ≡ var n → (terms : List Term) → ¬ Give source target terms old
-none_variable source target old m symbol n args there is image terms give =
-    let same : put terms (app symbol (as_terms (map (tree_at source) args))) ≡ var n = sym (ap (put terms) is) ∙ given_at source target terms old m give there ∙ image in
-    cc
-
-pub none_symbol : (source target : List Term) (old : List Match) (m : Match) (symbol other : ℕ) (args others : List ℕ) → Contains old m
-    → tree_at source m.row ≡ app symbol (as_terms (map (tree_at source) args)) → tree_at target m.image ≡ app other (as_terms (map (tree_at target) others))
-    → (symbol ≡ other → ⊥) → (terms : List Term) → ¬ Give source target terms old
-none_symbol source target old m symbol other args others there is image apart terms give =
-    apart (args_given terms source target symbol other args others (sym (ap (put terms) is) ∙ given_at source target terms old m give there ∙ image)).0
 
 pub none_args : (source target : List Term) (old : List Match) (m : Match) (symbol other : ℕ) (args others : List ℕ) → Contains old m
     → tree_at source m.row ≡ app symbol (as_terms (map (tree_at source) args)) → tree_at target m.image ≡ app other (as_terms (map (tree_at target) others))
@@ -310,14 +268,6 @@ pub record TakesUpTo (source target : List Term) (old now : List Match) (next : 
   pub within : next ≤ length now
   pub apart : (k : ℕ) (m : Match) → k < next → slice_get now k ≡ Some m → IsTakenApart source target now m
   pub gives : (terms : List Term) → Give source target terms old → Give source target terms now
-
-pub takes_none : (source target : List Term) (old : List Match) → AreThere (length source) (length target) old → TakesUpTo source target old old 0
-takes_none source target old there = record {
-  adds = adds_none source target old there;
-  within = omega arith;
-  apart = λ k m lt. absurd (omega arith);
-  gives = λ terms give. give;
-}
 
 pub takes_more : (source target : List Term) (old now new : List Match) (next : ℕ) (m : Match) → TakesUpTo source target old now next → slice_get now next ≡ Some m
     → TakesApart source target now new m → TakesUpTo source target old new (next + 1)

@@ -106,13 +106,6 @@ pub record IsWalked (over : Problem) (certificate : Certificate) (terms : List T
   pub same : sights (literals_of terms branch) (drop place (map (entry_of terms) nodes)) ≡ drop place (sights [] (map (entry_of terms) nodes))
   pub pass : AllPass over certificate place
 
-pub walked_none : (over : Problem) (certificate : Certificate) (terms : List Term) (nodes : List Node) (branch : List (Bor Literal)) → branch ≡ [] → IsWalked over certificate terms nodes branch 0
-walked_none over certificate terms nodes branch none = record {
-  rows = subst (All (λ (literal : Bor Literal). HasRows (length terms) literal.now)) (sym none) (All-nil (λ (literal : Bor Literal). HasRows (length terms) literal.now));
-  same = ap (λ bs. sights (literals_of terms bs) (map (entry_of terms) nodes)) none;
-  pass = λ i placed ancestor lt. absurd (omega arith);
-}
-
 -- the node at a place, and what is known of it
 pub record IsAt (over : Problem) (certificate : Certificate) (terms : List Term) (nodes : List Node) (branch : List (Bor Literal)) (place : ℕ) (node : Node) (ancestor : ℕ) : Type 0 where
   pub stands : slice_get nodes place ≡ Some node

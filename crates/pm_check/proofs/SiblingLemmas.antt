@@ -15,27 +15,6 @@ pub record GoesUpTo (ds : List ℕ) (place end_place : ℕ) : Type 0 where
   pub within : end_place ≤ length ds
   pub below : (k : ℕ) → place < k → k < end_place → slice_index ds place < slice_index ds k
 
-pub goes_none : (ds : List ℕ) (place : ℕ) → place < length ds → GoesUpTo ds place (place + 1)
-goes_none ds place lt = record { after = omega arith; within = omega arith; below = λ k gt lt. absurd (omega arith) }
-
-pub goes_more : (ds : List ℕ) (place middle next : ℕ) → GoesUpTo ds place middle → slice_index ds place < slice_index ds middle → IsNextPlace ds middle next → GoesUpTo ds place next
-goes_more ds place middle next goes deeper skips = record {
-  after = omega (arith, goes.after, skips.after);
-  within = skips.within;
-  below = λ k gt lt. by k gt lt (cases_lt k middle);
-}
-  where
-    here : (k : ℕ) → k < next → (k ≡ middle) ⊎ (k ≡ middle → ⊥) → middle ≤ k → slice_index ds place < slice_index ds k
-    here k lt (inl same) ge = subst (λ m. slice_index ds place < slice_index ds m) (sym same) deeper
-    here k lt (inr apart) ge = omega (arith, deeper, skips.below k (omega arith) lt)
-
-    by : (k : ℕ) → place < k → k < next → (k < middle) ⊎ (middle ≤ k) → slice_index ds place < slice_index ds k
-    by k gt lt (inl before) = goes.below k gt before
-    by k gt lt (inr from) = here k lt (cases_eq k middle) from
-
-pub goes_all : (ds : List ℕ) (place next : ℕ) → GoesUpTo ds place next → (next < length ds → slice_index ds next ≤ slice_index ds place) → IsNextPlace ds place next
-goes_all ds place next goes ends = record { after = goes.after; within = goes.within; below = goes.below; ends = ends }
-
 -- ---- siblings
 
 not_less : (a b : ℕ) → b ≤ a → ltb a b ≡ false

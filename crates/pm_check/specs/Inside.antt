@@ -5,3 +5,4 @@ pub mod Siblings
 pub mod Sights
 pub mod Passing
 pub mod Ready
+pub mod Example

@@ -218,3 +218,6 @@ fn check_size(cert: &Cert) -> Result<u64, Refusal>
     }
     Ok(size)
 }
+
+#[cfg(test)]
+mod tests;
