@@ -207,6 +207,17 @@ after_closed clauses class placed ancestor fine closed NotRegular h = omega arit
 after_closed clauses class placed ancestor fine closed DepthDiffers h = absurd h
 after_closed clauses class placed ancestor fine closed SizeDiffers h = absurd h
 
+-- and it is connected, if it is inner
+after_connected : (clauses : List Clause) (class : Class) (placed : PlacedNode) (ancestor : ℕ) → ¬ IsNoInstance clauses placed.node → ¬ IsNotClosed placed.above placed.node ancestor → ¬ IsUnconnected placed.node
+    → (other : RefusalKind) → OffendsAt clauses class placed ancestor other → 5 ≤ rank other
+after_connected clauses class placed ancestor fine closed connected NotStart h = absurd h
+after_connected clauses class placed ancestor fine closed connected NotInstance h = absurd (fine h)
+after_connected clauses class placed ancestor fine closed connected NotComplementary h = absurd (closed h)
+after_connected clauses class placed ancestor fine closed connected NotConnected h = absurd (connected h)
+after_connected clauses class placed ancestor fine closed connected NotRegular h = omega arith
+after_connected clauses class placed ancestor fine closed connected DepthDiffers h = absurd h
+after_connected clauses class placed ancestor fine closed connected SizeDiffers h = absurd h
+
 not_instance : (clauses : List Clause) (node : Tree) → HasFamily clauses node → ¬ IsNoInstance clauses node
 not_instance clauses (leaf literal) fine h = h
 not_instance clauses (inner literal clause children) fine h = h fine
@@ -313,3 +324,33 @@ no_closing clauses terms nodes branch place node above (leaf literal) ancestor s
       offends = λ h. none (subst (λ l. IsClosedAt (literals_of terms branch) l ancestor) (sym (ap (λ (e : Entry). e.literal) seen.entry)) (subst (λ ls. IsClosedAt ls literal ancestor) seen.branch_is h));
       first = after_family clauses class (record { above = above; node = leaf literal }) ancestor (λ h. h);
     }
+
+literal_seen : (terms : List Term) (node : Node) (d : ℕ) (tree : Tree) → entry_of terms node ≡ top_of d tree → literal_of terms node.literal ≡ literal_on tree
+literal_seen terms node d (leaf literal) seen = ap (λ (e : Entry). e.literal) seen
+literal_seen terms node d (inner literal clause children) seen = ap (λ (e : Entry). e.literal) seen
+
+pub passes_all : (clauses : List Clause) (class : Class) (terms : List Term) (nodes : List Node) (branch : List (Bor Literal)) (place : ℕ) (node : Node) (placed : PlacedNode) (ancestor : ℕ)
+    → Sees terms nodes branch place placed.above placed.node node → PassesByItself clauses placed ancestor → (class ≡ Regular → ¬ Contains (literals_of terms branch) (literal_of terms node.literal))
+    → Passes clauses class placed ancestor
+passes_all clauses class terms nodes branch place node placed ancestor seen own regular = record {
+  sound = record {
+    family = own.family;
+    connected = own.connected;
+    regular = λ is h. regular is
+        (subst (Contains (literals_of terms branch)) (sym (literal_seen terms node (length placed.above + 1) placed.node seen.entry))
+        (subst (λ ls. Contains ls (literal_on placed.node)) seen.branch_is h));
+  };
+  closed = own.closed;
+}
+
+pub no_regularity : (clauses : List Clause) (class : Class) (terms : List Term) (nodes : List Node) (branch : List (Bor Literal)) (place : ℕ) (node : Node) (placed : PlacedNode) (ancestor : ℕ)
+    → Sees terms nodes branch place placed.above placed.node node → PassesByItself clauses placed ancestor → class ≡ Regular → Contains (literals_of terms branch) (literal_of terms node.literal)
+    → IsFirstAt clauses class placed ancestor NotRegular
+no_regularity clauses class terms nodes branch place node placed ancestor seen own is repeated = record {
+  offends = (
+    is,
+    subst (λ ls. Contains ls (literal_on placed.node)) (sym seen.branch_is)
+        (subst (Contains (literals_of terms branch)) (literal_seen terms node (length placed.above + 1) placed.node seen.entry) repeated),
+  );
+  first = after_connected clauses class placed ancestor (not_instance clauses placed.node own.family) (not_closed placed.above placed.node ancestor own.closed) (not_connected placed.node own.connected);
+}

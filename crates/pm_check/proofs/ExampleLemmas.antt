@@ -1,5 +1,5 @@
 -- The problem of the tests is a valid one.
-use Rattle.std.proofs.Common.{◌≡◌, ◌∙◌, ◌<◌, ◌≤◌, inl, ℕ, zero, suc, List, [], ◌∷◌, length, map, get_or, refl, sym, subst, arith, lit<, lit≤, codes}
+use Rattle.std.proofs.Common.{◌≡◌, ◌<◌, ◌≤◌, inl, ℕ, zero, suc, List, [], ◌∷◌, length, map, get_or, refl, sym, subst, arith, lit<, lit≤, codes}
 use Rattle.std.specs.List.{All}
 use Rattle.std.proofs.lemmas.List.{length-map}
 use Rattle.std.proofs.lemmas.List.Elements.{All-nil, All-cons, All-map}

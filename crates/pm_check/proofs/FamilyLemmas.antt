@@ -4,7 +4,7 @@ use Rattle.std.specs.Prelude.{slice_get, slice_index, MatchBool, IsTrue, IsSomeA
 use Rattle.std.specs.List.{All, AllZip, Contains}
 use Rattle.std.specs.Option.{option_map}
 use Rattle.std.proofs.lemmas.List.{append-nil, length-append, length_push, length-map, take_all}
-use Rattle.std.proofs.lemmas.List.Elements.{All-contains, All-nil}
+use Rattle.std.proofs.lemmas.List.Elements.{All-contains}
 use Rattle.std.proofs.lemmas.Option.{slice_get_within, slice_get-get_or, slice_get-map}
 use Rattle.pm_logic.specs.declared.problem.Literal.{Literal}
 use Rattle.pm_logic.specs.declared.problem.Clause.{Clause}

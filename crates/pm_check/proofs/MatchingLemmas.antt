@@ -1,13 +1,13 @@
 -- Matching terms of one table with those of another.
-use Rattle.std.proofs.Common.{◌≡◌, ◌∙◌, ◌↔◌, ◌<◌, ◌≤◌, ◌⊎◌, inl, inr, ℕ, zero, suc, ◌+◌, Bool, true, false, List, [], ◌∷◌, ◌++◌, length, map, get_or, take, Some, sym, ap, refl, subst, arith, append_assoc}
+use Rattle.std.proofs.Common.{◌≡◌, ◌∙◌, ◌<◌, ◌≤◌, ◌⊎◌, inl, inr, ℕ, zero, suc, ◌+◌, Bool, true, false, List, [], ◌∷◌, ◌++◌, length, map, get_or, take, Some, sym, ap, refl, subst, arith, append_assoc}
 use mathlib.Core.Bool.{beq}
-use Rattle.std.specs.Prelude.{not, slice_get, MatchBool, IsTrue}
+use Rattle.std.specs.Prelude.{not, slice_get, MatchBool}
 use Rattle.std.specs.List.{All, AllZip, Contains}
-use Rattle.std.proofs.lemmas.List.{append-nil, length-append, length-map}
+use Rattle.std.proofs.lemmas.List.{append-nil, length-append}
 use Rattle.std.proofs.lemmas.Bool.{cases_lt}
-use Rattle.std.proofs.lemmas.List.Elements.{AllZip-push, All-contains, Contains-append_left, Contains-get_or, Contains-push, Contains-push_cases, length_all_zip}
+use Rattle.std.proofs.lemmas.List.Elements.{AllZip-push, All-contains, Contains-append_left, Contains-get_or, Contains-push_cases, length_all_zip}
 use Rattle.std.proofs.lemmas.Option.{slice_get_within, slice_get-get_or, get_or_from_slice_get}
-use Rattle.pm_logic.specs.Term.{Term, var, app, more_terms, as_terms, list_of, tree_at}
+use Rattle.pm_logic.specs.Term.{Term, app, more_terms, as_terms, list_of, tree_at}
 use Rattle.pm_logic.specs.Filling.{fill_among, term_for, put}
 use Rattle.pm_logic.specs.Problem.{Symbol, Literal as Written, IsTermOver, AreTermsOver}
 use Rattle.pm_logic.specs.declared.problem.Literal.{Literal}

@@ -44,10 +44,15 @@ pub fn offence(
     if found.is_some() {
         return found;
     }
-    if class == Class::Regular && repeats(nodes.terms, branch, &nodes.list[place].literal) {
-        return Some(RefusalKind::NotRegular);
+    match class {
+        Class::Plain => None,
+        Class::Regular => {
+            if repeats(nodes.terms, branch, &nodes.list[place].literal) {
+                return Some(RefusalKind::NotRegular);
+            }
+            None
+        }
     }
-    None
 }
 
 // The same, but for regularity.

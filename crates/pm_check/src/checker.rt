@@ -81,13 +81,15 @@ impl<'p> Checker<'p> {
         })
     }
 
-    /// Checks the certificate, in time linear in its length and that of the clauses that it names,
-    /// and takes no memory.
+    /// Checks the certificate. This takes no memory, and time about linear in the certificate and,
+    /// for each node that has a clause, in the size of the clause.
     ///
-    /// At Ok the tableau has the size given, which is the header's number, is in the class of that
-    /// size that the header names, and each leaf is complementary to the ancestor that it names. The
-    /// error is the first line that is wrong, the root's first and then those of the nodes, with the
-    /// first kind for which it is wrong; where only the header's number is wrong, the header's line.
+    /// At Ok the tableau has the size given, which is the header's number, and is in the class of
+    /// that size that the header names, and each leaf is complementary to the ancestor that it
+    /// names. That lower levels hold no proof is not checked. The error is the first line that is
+    /// wrong, the root's first and then those of the nodes, with the first kind for which it is
+    /// wrong; where only the header's number is wrong, it is the header's line. After either answer
+    /// the certificate may be checked again.
     pub fn check(&mut self) -> Result<u64, Refusal>
         ensures ok { IfOk result (IsAccepted self.old.problem self.old.certificate) }
         ensures err { IfErr result (λ refusal. IsRefused self.old.problem self.old.certificate

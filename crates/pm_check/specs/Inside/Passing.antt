@@ -96,7 +96,8 @@ pub record IsFirstAtRoot (over : Problem) (certificate : Certificate) (refusal :
 
 -- nothing is wrong with the root
 pub record RootPasses (over : Problem) (certificate : Certificate) : Type 0 where
-  pub start : Contains (start_clauses certificate.start over.clauses) certificate.tableau.tableau.root
+  pub start :
+      Contains (start_clauses certificate.start over.clauses) certificate.tableau.tableau.root
   pub family :
       IsFamily over.clauses certificate.tableau.tableau.root certificate.tableau.tableau.children
 
