@@ -1,0 +1,12 @@
+pub mod ImageLemmas
+pub mod MatchingLemmas
+pub mod SolvingLemmas
+pub mod SiblingLemmas
+pub mod FamilyLemmas
+pub mod BranchLemmas
+pub mod WalkLemmas
+pub mod TreeLemmas
+pub mod LineLemmas
+pub mod VerdictLemmas
+pub mod PlaceLemmas
+pub mod ExampleLemmas
