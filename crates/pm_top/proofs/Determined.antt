@@ -11,22 +11,32 @@ use Rattle.pm_write.specs.Text.{problem_text}
 use Rattle.pm_cnf.proofs.meaning.Determined.{problem_is_determined, offence_is_determined}
 use Rattle.pm_outside.specs.Outside.{Files}
 use Rattle.pm_deepen.proofs.Determined.{answer_determined}
+use Rattle.pm_deepen.specs.declared.DeepEnd.{DeepEnd}
+use Rattle.pm_deepen.specs.declared.DeepEnd.TheVariants.{Proof, DepthReached, BudgetOut}
+use Rattle.pm_logic.specs.Tableau as logic_tableau
+use Rattle.pm_cert.proofs.DeterminedLemmas.{determined_document}
 use Rattle.pm_top.specs.declared.run.TheConstants.{MAX_FILE_BYTES}
 use Rattle.pm_top.specs.declared.status.Status.{Status}
 use Rattle.pm_top.specs.declared.status.Status.TheVariants as ends
 use Rattle.pm_top.specs.JobWords.{Job, prove, clauses, file_of, job_of}
-use Rattle.pm_top.specs.Arguments.{HasNoArguments}
-use Rattle.pm_top.specs.Text.{bad_words, input_error, arguments_not_built, too_long}
-use Rattle.pm_top.specs.Run.{Fetched, no_file, these_bytes, over_limit, HasLearnt, standard, standard_limits, status_of, text_of, EndsSearch, IsRefusal, EndsProof, EndsClauses, EndsJob, IsOutput, OutputIsDetermined}
+use Rattle.pm_top.specs.Text.{bad_words, input_error, too_long}
+use Rattle.pm_top.specs.Run.{Fetched, no_file, these_bytes, over_limit, HasLearnt, standard, standard_limits, status_of, report, IsTextOf, EndsSearch, IsRefusal, EndsProof, EndsClauses, EndsJob, IsOutput, OutputIsDetermined}
 
 -- ---- one end for the problem
+text_once : (problem : logic.Problem) (works : List ℕ) (end : DeepEnd) (tableau : Option logic_tableau.Tableau) (text second : List ℕ)
+    → IsTextOf problem works end tableau text → IsTextOf problem works end tableau second → text ≡ second
+text_once problem works (Proof level path work) (Some t) text second a b = determined_document problem.symbols (report works work) t text second a.document b.document
+text_once problem works (Proof level path work) None text second a b = absurd a
+text_once problem works DepthReached tableau text second a b = a ∙ sym b
+text_once problem works (BudgetOut level) tableau text second a b = a ∙ sym b
+
 search_once : (problem : logic.Problem) (status other : Status) (text second : List ℕ) → EndsSearch problem status text → EndsSearch problem other second
     → (status ≡ other) × (text ≡ second)
 search_once problem status other text second a b =
-    let same = answer_determined problem standard a.works b.works a.end b.end a.tableau b.tableau a.answer b.answer in (
-      a.status_is ∙ ap status_of same.1 ∙ sym b.status_is,
-      a.text_is ∙ ap (λ ws. text_of problem ws a.end a.tableau) same.0 ∙ ap₂ (λ e t. text_of problem b.works e t) same.1 same.2 ∙ sym b.text_is,
-    )
+    let same = answer_determined problem standard a.works b.works a.end b.end a.tableau b.tableau a.answer b.answer in
+    let moved = subst (λ ws. IsTextOf problem ws b.end b.tableau text) same.0 (subst (λ e. IsTextOf problem a.works e b.tableau text) same.1
+    (subst (λ t. IsTextOf problem a.works a.end t text) same.2 a.text_is)) in
+    (a.status_is ∙ ap status_of same.1 ∙ sym b.status_is, text_once problem b.works b.end b.tableau text second moved b.text_is)
 
 -- ---- one end for the bytes
 refusal_once : (bytes text second : List ℕ) → IsRefusal bytes text → IsRefusal bytes second → text ≡ second
@@ -40,37 +50,28 @@ not_refused bytes text problem refused read = read.text.sound refused.0 refused.
 problem_once : (bytes : List ℕ) (p q : logic.Problem) → IsProblemIn standard_limits bytes p → IsProblemIn standard_limits bytes q → p ≡ q
 problem_once bytes p q a b = problem_is_determined standard_limits bytes p q a b
 
--- how a proof ends: refused, read but with arguments, or searched
+-- how a proof ends: refused, or searched
 data ProofEnd (bytes : List ℕ) (status : Status) (text : List ℕ) : Type 0 where
   refused : status ≡ ends.BadInput → IsRefusal bytes text → ProofEnd bytes status text
-  unbuilt : status ≡ ends.BadInput → (problem : logic.Problem) → IsProblemIn standard_limits bytes problem → (¬ HasNoArguments problem) → text ≡ arguments_not_built → ProofEnd bytes status text
-  searched : (problem : logic.Problem) → IsProblemIn standard_limits bytes problem → HasNoArguments problem → EndsSearch problem status text → ProofEnd bytes status text
+  searched : (problem : logic.Problem) → IsProblemIn standard_limits bytes problem → EndsSearch problem status text → ProofEnd bytes status text
 
 proof_end : (bytes : List ℕ) (status : Status) (text : List ℕ) → EndsProof bytes status text → ProofEnd bytes status text
-proof_end bytes ends.BadInput text (inl h) = refused refl h
-proof_end bytes ends.BadInput text (inr h) = unbuilt refl h.0 h.1 h.2 h.3
-proof_end bytes ends.Done text h = searched h.0 h.1 h.2 h.3
-proof_end bytes ends.DepthReached text h = searched h.0 h.1 h.2 h.3
-proof_end bytes ends.Budget text h = searched h.0 h.1 h.2 h.3
-proof_end bytes ends.CertRefused text h = searched h.0 h.1 h.2 h.3
-proof_end bytes ends.BadWords text h = searched h.0 h.1 h.2 h.3
-proof_end bytes ends.Missing text h = searched h.0 h.1 h.2 h.3
-proof_end bytes ends.ReadFault text h = searched h.0 h.1 h.2 h.3
-proof_end bytes ends.WriteFault text h = searched h.0 h.1 h.2 h.3
-proof_end bytes ends.NoMemory text h = searched h.0 h.1 h.2 h.3
+proof_end bytes ends.BadInput text h = refused refl h
+proof_end bytes ends.Done text h = searched h.0 h.1 h.2
+proof_end bytes ends.DepthReached text h = searched h.0 h.1 h.2
+proof_end bytes ends.Budget text h = searched h.0 h.1 h.2
+proof_end bytes ends.CertRefused text h = searched h.0 h.1 h.2
+proof_end bytes ends.BadWords text h = searched h.0 h.1 h.2
+proof_end bytes ends.Missing text h = searched h.0 h.1 h.2
+proof_end bytes ends.ReadFault text h = searched h.0 h.1 h.2
+proof_end bytes ends.WriteFault text h = searched h.0 h.1 h.2
+proof_end bytes ends.NoMemory text h = searched h.0 h.1 h.2
 
 proof_ends_once : (bytes : List ℕ) (status other : Status) (text second : List ℕ) → ProofEnd bytes status text → ProofEnd bytes other second → (status ≡ other) × (text ≡ second)
 proof_ends_once bytes status other text second (refused is r) (refused also q) = (is ∙ sym also, refusal_once bytes text second r q)
-proof_ends_once bytes status other text second (refused is r) (unbuilt also p read some q) = absurd (not_refused bytes text p r read)
-proof_ends_once bytes status other text second (refused is r) (searched p read bare h) = absurd (not_refused bytes text p r read)
-proof_ends_once bytes status other text second (unbuilt is p read some r) (refused also q) = absurd (not_refused bytes second p q read)
-proof_ends_once bytes status other text second (unbuilt is p read some r) (unbuilt also o again more q) = (is ∙ sym also, r ∙ sym q)
-proof_ends_once bytes status other text second (unbuilt is p read some r) (searched o again bare h) =
-    absurd (some (subst (λ (x : logic.Problem). HasNoArguments x) (problem_once bytes o p again read) bare))
-proof_ends_once bytes status other text second (searched p read bare h) (refused also q) = absurd (not_refused bytes second p q read)
-proof_ends_once bytes status other text second (searched p read bare h) (unbuilt also o again more q) =
-    absurd (more (subst (λ (x : logic.Problem). HasNoArguments x) (problem_once bytes p o read again) bare))
-proof_ends_once bytes status other text second (searched p read bare h) (searched o again also k) =
+proof_ends_once bytes status other text second (refused is r) (searched p read h) = absurd (not_refused bytes text p r read)
+proof_ends_once bytes status other text second (searched p read h) (refused also q) = absurd (not_refused bytes second p q read)
+proof_ends_once bytes status other text second (searched p read h) (searched o again k) =
     search_once o status other text second (subst (λ (x : logic.Problem). EndsSearch x status text) (problem_once bytes p o read again) h) k
 
 -- how the writing of clauses ends

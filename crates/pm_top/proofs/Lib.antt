@@ -1,5 +1,4 @@
 pub mod TextLemmas
-pub mod Certificates
 pub mod Puts
 pub mod Runs
 pub mod Searches

@@ -4,11 +4,12 @@ use Rattle.std.proofs.lemmas.Bool.{cases_lt}
 use Rattle.pm_logic.specs.declared.problem.Class.TheVariants.{Plain}
 use Rattle.pm_logic.specs.declared.tableau.BoundKind.TheVariants.{Depth}
 use Rattle.pm_logic.specs.declared.problem.Start.TheVariants.{Negative}
-use Rattle.pm_logic.specs.Problem.{Problem}
+use Rattle.pm_logic.specs.Problem.{Problem, IsValid}
 use Rattle.pm_logic.specs.Tableau.{Tableau, depth}
-use Rattle.pm_calculus.specs.Connection.{IsInClass}
+use Rattle.pm_calculus.specs.Connection.{IsClosed, IsOverSymbols, IsInClass}
 use Rattle.pm_calculus.specs.Choices.{IsComplete, IsGeneral}
 use Rattle.pm_calculus.proofs.General.{general_in_class}
+use Rattle.pm_calculus.proofs.OverSymbols.{general_over_symbols}
 use Rattle.pm_calculus.proofs.Refutation.{refuted}
 use Rattle.pm_calculus.proofs.TreesToLists.{tableau_follows}
 use Rattle.pm_deepen.specs.declared.DeepEnd.{DeepEnd}
@@ -20,8 +21,11 @@ use Rattle.pm_top.specs.declared.status.Status.TheVariants as ends
 use Rattle.pm_tab.specs.Searched.{Searched}
 use Rattle.pm_tab.specs.Searched.{level_of as searched_level}
 use Rattle.pm_top.specs.Text.{gave_up, resource_out}
-use Rattle.pm_top.specs.Certificate.{proof_text}
-use Rattle.pm_top.specs.Run.{standard, level_of, status_of, text_of, IsProofAt, EndsSearch}
+use Rattle.pm_cert.specs.Text.{IsDocument}
+use Rattle.pm_cert.specs.Laws.{HasSmallNumbers}
+use Rattle.pm_cert.proofs.CertifiableLemmas.{certifiable}
+use Rattle.pm_cert.proofs.ReadBackLemmas.{read_back}
+use Rattle.pm_top.specs.Run.{standard, level_of, status_of, report, IsProofText, IsTextOf, IsProofAt, EndsSearch}
 
 -- ---- what follows of an answer
 exhausted_empty : (problem : Problem) (works : List ℕ) → AreExhausted (λ bound. key_of (level_of problem bound)) standard.budget works
@@ -64,7 +68,7 @@ proved_tableau problem works (BudgetOut level) None h = tt
 proved_tableau problem works (BudgetOut level) (Some t) h = absurd h.goes
 
 pub search_ends : (problem : Problem) (works : List ℕ) (end : DeepEnd) (tableau : Option Tableau) (status : Status) (text : List ℕ) → IsAnswerOf problem standard works end tableau
-    → status ≡ status_of end → text ≡ text_of problem works end tableau → EndsSearch problem status text
+    → status ≡ status_of end → IsTextOf problem works end tableau text → EndsSearch problem status text
 search_ends problem works end tableau status text h status_is text_is = record {
   works = works;
   end = end;
@@ -99,14 +103,33 @@ module _ (problem : Problem) (searched : Searched) (is : searched ≡ searched_o
       (record { search = subst (λ (e : DeepEnd). IsAnswer (λ bound. key_of (level_of problem bound)) 30 1000000 works e) ended (answer_of end h); goes = tt })
       refl (text_is ∙ ap resource_out shown_is)
 
-  pub ends_proof : (end : DeepEnd) (level work : ℕ) (path taken : List ℕ) (t : Tableau) (text : List ℕ)
-      → IsAnswer (λ bound. key_of (searched_level searched bound)) 30 1000000 works end → end ≡ Proof level path work
-      → taken ≡ path → IsGeneral (searched_level searched level) taken t → text ≡ proof_text problem.symbols t shown work → EndsSearch problem ends.Done text
-  ends_proof end level work path taken t text h ended taken_is general text_is =
-      search_ends problem works (Proof level path work) (Some t) ends.Done text
-      (record {
-        search = subst (λ (e : DeepEnd). IsAnswer (λ bound. key_of (level_of problem bound)) 30 1000000 works e) ended (answer_of end h);
-        goes = subst (λ (choices : List ℕ). IsGeneral (level_of problem level) choices t) taken_is
-            (subst (λ (s : Searched). IsGeneral (searched_level s level) taken t) is general);
-      })
-      refl (text_is ∙ ap (λ (ws : List ℕ). proof_text problem.symbols t ws work) shown_is)
+  module _ (end : DeepEnd) (level work : ℕ) (path taken : List ℕ) (t : Tableau) (valid : IsValid problem)
+      (h : IsAnswer (λ bound. key_of (searched_level searched bound)) 30 1000000 works end) (ended : end ≡ Proof level path work) (taken_is : taken ≡ path)
+      (general : IsGeneral (searched_level searched level) taken t) where
+    answer : IsAnswer (λ bound. key_of (level_of problem bound)) 30 1000000 works (Proof level path work)
+    answer = subst (λ (e : DeepEnd). IsAnswer (λ bound. key_of (level_of problem bound)) 30 1000000 works e) ended (answer_of end h)
+
+    own_general : IsGeneral (level_of problem level) path t
+    own_general = subst (λ (choices : List ℕ). IsGeneral (level_of problem level) choices t) taken_is
+        (subst (λ (s : Searched). IsGeneral (searched_level s level) taken t) is general)
+
+    member : IsInClass (level_of problem level) t
+    member = general_in_class (level_of problem level) path t answer.ends.2.first.marked own_general
+
+    pub found_closed : IsClosed t
+    found_closed = member.closed
+
+    pub found_symbols : IsOverSymbols problem.symbols t
+    found_symbols = general_over_symbols (level_of problem level) path t valid own_general
+
+    proof_text : (text : List ℕ) → IsDocument problem.symbols (report works work) t text → HasSmallNumbers (report works work) t → IsProofText problem (report works work) t text
+    proof_text text document numbers =
+        let low = answer.ends.1 in
+        let certifiable_t = certifiable (level_of problem level) t valid (omega (arith, low)) member found_symbols own_general.numbered in
+        let back = read_back problem (report works work) t text certifiable_t numbers document in
+        record { document = document; certificate = back.0; reads = back.1; for = back.2 }
+
+    pub ends_proof : (text : List ℕ) → IsDocument problem.symbols (report shown work) t text → HasSmallNumbers (report shown work) t → EndsSearch problem ends.Done text
+    ends_proof text document numbers =
+        search_ends problem works (Proof level path work) (Some t) ends.Done text (record { search = answer; goes = own_general }) refl
+        (proof_text text (subst (λ ws. IsDocument problem.symbols (report ws work) t text) shown_is document) (subst (λ ws. HasSmallNumbers (report ws work) t) shown_is numbers))

@@ -1,7 +1,5 @@
-pub mod Arguments
 pub mod Status
 pub mod Text
-pub mod Certificate
 pub mod JobWords
 pub mod JobViews
 pub mod Run

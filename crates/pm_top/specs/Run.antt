@@ -22,10 +22,12 @@ use Rattle.pm_cnf.specs.Offences.{IsFirstOffence}
 use Rattle.pm_cnf.specs.Meaning.{IsProblemIn}
 use Rattle.pm_cnf.specs.Refusals.{before}
 use Rattle.pm_write.specs.Text.{problem_text}
+use Rattle.pm_certread.specs.Certificate.{Certificate}
+use Rattle.pm_certread.specs.Reading.{accepted, Reads}
+use Rattle.pm_cert.specs.Text.{SearchReport, report_of, IsDocument}
+use Rattle.pm_cert.specs.Laws.{IsCertificateFor}
 use Rattle.pm_top.specs.JobWords.{Job, prove, clauses, file_of, job_of}
-use Rattle.pm_top.specs.Arguments.{HasNoArguments}
-use Rattle.pm_top.specs.Text.{gave_up, resource_out, bad_words, input_error, arguments_not_built, too_long}
-use Rattle.pm_top.specs.Certificate.{proof_text}
+use Rattle.pm_top.specs.Text.{gave_up, resource_out, bad_words, input_error, too_long}
 
 -- what a run learns of its file: the words are no job, these are the job and the file's bytes, or
 -- the file is over the limit
@@ -66,13 +68,25 @@ status_of (Proof level path work) = ends.Done
 status_of DepthReached = ends.DepthReached
 status_of (BudgetOut level) = ends.Budget
 
+-- what a proof's text says of the search
+abbrev pub report : List ℕ → ℕ → SearchReport
+report works work = report_of standard.class standard.start standard.bound works work
+
+-- the text is the certificate of the tableau, and reads as it
+pub record IsProofText (problem : Problem) (report : SearchReport) (tableau : Tableau)
+    (text : List ℕ) : Type 0 where
+  pub document : IsDocument problem.symbols report tableau text
+  pub certificate : Certificate
+  pub reads : Reads problem text (accepted certificate)
+  pub for : IsCertificateFor report tableau certificate
+
 -- a tableau goes with a proof alone
-abbrev pub text_of : Problem → List ℕ → DeepEnd → Option Tableau → List ℕ
-text_of problem works (Proof level path work) (Some tableau) =
-    proof_text problem.symbols tableau works work
-text_of problem works (Proof level path work) None = []
-text_of problem works DepthReached tableau = gave_up works
-text_of problem works (BudgetOut level) tableau = resource_out works
+abbrev pub IsTextOf : Problem → List ℕ → DeepEnd → Option Tableau → List ℕ → Type 0
+IsTextOf problem works (Proof level path work) (Some tableau) text =
+    IsProofText problem (report works work) tableau text
+IsTextOf problem works (Proof level path work) None text = ⊥
+IsTextOf problem works DepthReached tableau text = text ≡ gave_up works
+IsTextOf problem works (BudgetOut level) tableau text = text ≡ resource_out works
 
 -- The tableau proves the problem unsatisfiable at this depth: it is a closed connection tableau of
 -- the class, it is as deep as that, and under each truth assignment some clause instance of it is
@@ -91,7 +105,7 @@ pub record EndsSearch (problem : Problem) (status : Status) (text : List ℕ) : 
   pub tableau : Option Tableau
   pub answer : IsAnswerOf problem standard works end tableau
   pub status_is : status ≡ status_of end
-  pub text_is : text ≡ text_of problem works end tableau
+  pub text_is : IsTextOf problem works end tableau text
   pub exhausted :
       (level : ℕ) → level < length works → (member : Tableau)
       → IsInClass (level_of problem level) member → ⊥
@@ -104,14 +118,11 @@ IsRefusal bytes text =
     × (text ≡ input_error (line_of (before bytes rest)) (column_of (before bytes rest)) kind)
 
 -- The status and text with which the proof of these bytes ends: they are refused exactly where they
--- have an offence, or where a kept literal has arguments.
+-- have an offence.
 abbrev pub EndsProof : List ℕ → Status → List ℕ → Type 0
-EndsProof bytes ends.BadInput text =
-    IsRefusal bytes text
-    ⊎ ((problem : Problem) × IsProblemIn standard_limits bytes problem
-    × (¬ HasNoArguments problem) × (text ≡ arguments_not_built))
+EndsProof bytes ends.BadInput text = IsRefusal bytes text
 EndsProof bytes status text =
-    (problem : Problem) × IsProblemIn standard_limits bytes problem × HasNoArguments problem
+    (problem : Problem) × IsProblemIn standard_limits bytes problem
     × EndsSearch problem status text
 
 -- The status and text with which the writing of these bytes' clauses ends: they are refused exactly

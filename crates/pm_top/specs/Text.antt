@@ -36,9 +36,6 @@ input_error line column kind =
     codes "% SZS status InputError\nline " ++ decimal line ++ codes " column " ++ decimal column
     ++ codes " " ++ kind_word kind ++ codes "\n"
 
-abbrev pub arguments_not_built : List ℕ
-arguments_not_built = codes "% SZS status InputError\narguments are not built\n"
-
 -- the file of this place in the words is over its limit
 abbrev pub too_long : ℕ → List ℕ
 too_long file = codes "% SZS status InputError\nfile " ++ decimal file ++ codes " TooLong\n"

@@ -1,7 +1,6 @@
 //! The top call: what the program does with its words, its files and its output.
 #![tactic(auto)]
 
-mod certificate;
 mod put;
 mod run;
 mod status;

@@ -1,25 +1,23 @@
 //! The top call.
-ghost use Rattle.std.specs.Prelude.{◌≡◌, ◌==◌, ℕ, ◌<◌, ◌≤◌, true, false, Option, None, Some, IsNone, IfSome, IsSomeAnd, IfOk, IfErr, OnErr, IsErrOf, IsOkAnd, ◌⊎◌, length, map, string_bytes};
-ghost use Rattle.std.specs.List.{list_all};
+ghost use Rattle.std.specs.Prelude.{◌≡◌, ◌≤◌, IsNone, IfOk, IsErrOf, IsOkAnd, ◌⊎◌, length, map, string_bytes};
 ghost use Rattle.std.specs.FinMap as files;
 ghost use Rattle.pm_outside.specs.Outside.{CountsOnly, Rose};
 ghost use Rattle.pm_cnf.specs.Refusals.{Refuses};
 ghost use Rattle.pm_top.specs.JobWords.{job_of};
 ghost use Rattle.pm_top.specs.JobViews.{job_view};
 ghost use Rattle.pm_calculus.specs.Choices.{IsComplete, IsGeneral};
-ghost use Rattle.pm_top.specs.Arguments.{HasNoArguments};
 ghost use Rattle.pm_tab.specs.Searched.{level_of};
 ghost use Rattle.pm_top.specs.Inside.Faults.{fault_status};
 ghost use Rattle.pm_top.specs.Run.{Output, OutputIsDetermined, HasWritten, EndsJob, EndsProof, EndsClauses, EndsSearch, IsRefusal, IsMissing, standard_limits};
 
-use crate::certificate::proof;
 use crate::put::put_text;
 use crate::status::Status;
-use crate::texts::{arguments_not_built, bad_words, gave_up, input_error, resource_out, too_long};
+use crate::texts::{bad_words, gave_up, input_error, resource_out, too_long};
 use crate::words::{Job, job_of};
+use pm_cert::write_cert;
 use pm_cnf::{CnfError, Limits, read, write};
 use pm_deepen::{DeepEnd, Outcome, deepen_alone};
-use pm_logic::{BoundKind, Class, Clause, Problem, Start, Tableau};
+use pm_logic::{BoundKind, Class, Problem, Start, Tableau};
 use pm_outside::{FetchFault, Library, Sink};
 use pm_space::{Maker, Space};
 use pm_tab::TabMaker;
@@ -91,7 +89,7 @@ fn general_tableau(
     space.tableau(alloc)
 }
 
-// Searches the tableaux of a problem whose predicates have no arguments, level by level.
+// Searches the tableaux of a problem, level by level.
 fn search(alloc: Global, problem: &Problem) -> Result<Answer, AllocError>
     ensures { IfOk result (λ answer. EndsSearch problem.now answer.status answer.text.items) }
 {
@@ -113,37 +111,24 @@ fn search(alloc: Global, problem: &Problem) -> Result<Answer, AllocError>
             text: resource_out(alloc, &works)?,
         }),
         DeepEnd::Proof { depth, path, work } => {
+            // A problem that was made is valid, as the number of its clauses tells.
+            let _count = problem.clauses();
             let tableau = general_tableau(alloc, &maker, depth, path.as_slice())?;
             Ok(Answer {
                 status: Status::Done,
-                text: proof(alloc, problem, &tableau, &works, work)?,
+                text: write_cert(
+                    alloc,
+                    problem,
+                    &tableau,
+                    Class::Plain,
+                    Start::Negative,
+                    BoundKind::Depth,
+                    &works,
+                    work,
+                )?,
             })
         }
     }
-}
-
-// Whether a literal of the problem has arguments.
-fn has_arguments(problem: &Problem) -> bool
-    ensures none { result ≡ false → HasNoArguments problem.now }
-    ensures some { result ≡ true → ¬ HasNoArguments problem.now }
-{
-    'clauses: for i in 0..problem.clauses() {
-        if !is_bare(problem.clause(i)) {
-            return true;
-        }
-    }
-    false
-}
-
-// Whether no literal of the clause has arguments.
-fn is_bare(clause: &Clause) -> bool
-    ensures { result
-        ≡ list_all (λ literal. length literal.args.items == 0) clause.now.literals.items }
-{
-    clause
-        .literals
-        .iter()
-        .all(|literal| literal.args.is_empty())
 }
 
 // The answer for bytes that aren't read.
@@ -167,10 +152,6 @@ fn prove(alloc: Global, bytes: &[u8]) -> Result<Answer, AllocError>
     ensures { IfOk result (λ answer. EndsProof bytes.now answer.status answer.text.items) }
 {
     match read(alloc, bytes, &Limits::standard()) {
-        Ok(problem) if has_arguments(&problem) => Ok(Answer {
-            status: Status::BadInput,
-            text: arguments_not_built(alloc)?,
-        }),
         Ok(problem) => search(alloc, &problem),
         Err(error) => refuse(alloc, error),
     }
@@ -246,9 +227,9 @@ fn answer_words<L: Library>(
 /// Does the job that the words ask for, with one worker. It always returns.
 ///
 /// The jobs are `prove FILE` and `clauses FILE`. `clauses` writes the clauses of a file. `prove`
-/// takes clauses whose predicates have no arguments: levels 0 to 30 are searched in order for
-/// closed connection tableaux of the class `plain` with a negative start clause; level d is the
-/// search of those of depth at most d, with at most 1,000,000 attempts. Nothing is written on
+/// searches levels 0 to 30 in order for closed connection tableaux of the class `plain` with a
+/// negative start clause; level d is the search of those of depth at most d, with at most 1,000,000
+/// attempts. What is found is written as a certificate (docs/FORMAT.md). Nothing is written on
 /// `Missing`, `ReadFault` and `NoMemory`, and a prefix of the output's text on `WriteFault`; on
 /// every other status the whole text. Want of memory alone has no cause that a clause names.
 pub fn run_alone<L: Library, S: Sink>(
@@ -282,11 +263,11 @@ pub fn run_alone<L: Library, S: Sink>(
 
     // What is written is the text of the output, with its status. A level is printed as exhausted
     // only with its number of attempts, and only if no closed connection tableau has at most its
-    // depth. A proof is printed only as such a tableau of the least depth. The depth is reached
-    // exactly where each level is exhausted within the budget; the budget ends a run exactly where
-    // a level needs more attempts and no lower one has a tableau; the bytes are refused exactly
-    // where they have an offence, by the first one, or, where they are to be proved, where a kept
-    // literal has arguments.
+    // depth. A proof is printed only as the certificate of such a tableau of the least depth, and
+    // the text reads as that tableau. The depth is reached exactly where each level is exhausted
+    // within the budget; the budget ends a run exactly where a level needs more attempts and no
+    // lower one has a tableau; the bytes are refused exactly where they have an offence, by the
+    // first one.
     ensures written { HasWritten (map string_bytes words.now) (L.told library.old)
         (L.longs library.old, L.longs library.new) (S.written sink.old) (S.written sink.new)
         result }

@@ -150,13 +150,61 @@ fn refusals(rt: HostRuntime) -> Result<(), Fail> {
         ("cnf(a,axiom,p", "line 1 column 14 EndInItem"),
         ("cnf(a,axiom,X = Y).", "line 1 column 15 Equality"),
         ("include('x').", "line 1 column 1 Include"),
-        ("cnf(a,axiom,p(a)).", "arguments are not built"),
     ] {
         let (status, text) = prove(rt.alloc(), file)?;
         let want = format!(in rt.alloc(); "% SZS status InputError\n{line}\n")?;
         assert_eq!(rt; status, Status::BadInput, "at {file:?}");
         assert_eq!(rt; text.as_str(), want.as_str(), "at {file:?}");
     }
+    Ok(())
+}
+
+// Terms are built from the goal's: each step strips one function.
+#[test]
+fn terms_in_lines(rt: HostRuntime) -> Result<(), Fail> {
+    let file = "cnf(a,axiom,p(a)). cnf(b,axiom,~p(X) | p(f(X))).
+cnf(c,negated_conjecture,~p(f(f(a)))).";
+    let (status, text) = prove(rt.alloc(), file)?;
+    assert_eq!(rt; status, Status::Done);
+    assert_eq!(rt;
+        text.as_str(),
+        "% SZS status Unsatisfiable
+level 0 exhausted attempts 1
+level 1 exhausted attempts 1
+level 2 exhausted attempts 4
+level 3 exhausted attempts 8
+level 4 proof attempts 9
+parmel 1 class plain start negative depth 4 terms 3 nodes 6
+a
+f 0
+f 1
+root 2
+1 - p 2 extend 1
+2 - p 1 extend 1
+3 - p 0 extend 0
+4 + p 0 close 3
+3 + p 1 close 2
+2 + p 2 close 1
+end
+"
+    );
+    Ok(())
+}
+
+// No finite term is its own argument: nothing is both p(X,X) and p(Y,f(Y)).
+#[test]
+fn no_term_in_itself(rt: HostRuntime) -> Result<(), Fail> {
+    let front = "% SZS status GaveUp
+level 0 exhausted attempts 1
+level 1 exhausted attempts 1
+";
+    let mut want = String::from_str(rt.alloc(), front)?;
+    for level in 2..31 {
+        want.push_str(format!(in rt.alloc(); "level {level} exhausted attempts 2\n")?.as_str())?;
+    }
+    let (status, text) = prove(rt.alloc(), "cnf(a,axiom,p(X,X)). cnf(b,axiom,~p(Y,f(Y))).")?;
+    assert_eq!(rt; status, Status::DepthReached);
+    assert_eq!(rt; text.as_str(), want.as_str());
     Ok(())
 }
 

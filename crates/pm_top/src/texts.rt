@@ -1,13 +1,13 @@
 //! The texts that a run prints.
 ghost use Rattle.std.specs.Prelude.{◌≡◌, ◌++◌, IfOk, OnOk, decimal};
-ghost use Rattle.pm_top.specs.Text.{level_line, level_lines, gave_up, resource_out, bad_words, input_error, arguments_not_built, too_long};
+ghost use Rattle.pm_top.specs.Text.{level_line, level_lines, gave_up, resource_out, bad_words, input_error, too_long};
 
 use itoa::Buffer;
 use pm_cnf::{CnfKind, Place};
 use std::alloc::{AllocError, Global};
 
-/// Appends a number in decimal digits.
-pub fn push_number(text: &mut Vec<u8>, number: u64) -> Result<(), AllocError>
+// Appends a number in decimal digits.
+fn push_number(text: &mut Vec<u8>, number: u64) -> Result<(), AllocError>
     ensures { OnOk result (text.new.items ≡ text.old.items ++ decimal number) }
 {
     let mut buffer = Buffer::new();
@@ -26,8 +26,8 @@ fn push_level(text: &mut Vec<u8>, level: u64, work: u64) -> Result<(), AllocErro
     Ok(())
 }
 
-/// Appends a line for each exhausted level from level 0 on.
-pub fn push_levels(text: &mut Vec<u8>, works: &[u64]) -> Result<(), AllocError>
+// Appends a line for each exhausted level from level 0 on.
+fn push_levels(text: &mut Vec<u8>, works: &[u64]) -> Result<(), AllocError>
     ensures { OnOk result (text.new.items ≡ text.old.items ++ level_lines works.now) }
 {
     for (level, work) in works.iter().enumerate() {
@@ -77,13 +77,6 @@ pub fn input_error(alloc: Global, place: Place, kind: CnfKind) -> Result<Vec<u8>
     text.extend_from_slice(kind.word().as_bytes())?;
     text.push(b'\n')?;
     Ok(text)
-}
-
-/// The text for clauses with arguments, which the search doesn't take yet.
-pub fn arguments_not_built(alloc: Global) -> Result<Vec<u8>, AllocError>
-    ensures { IfOk result (λ text. text.items ≡ arguments_not_built) }
-{
-    Vec::from_slice(alloc, b"% SZS status InputError\narguments are not built\n")
 }
 
 /// The text for a file over its limit; `file` is its place among the files of the words, from 1 on.

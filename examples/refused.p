@@ -1,1 +1,0 @@
-cnf(a,axiom,p(a)).

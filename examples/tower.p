@@ -1,0 +1,30 @@
+cnf(goal,axiom,~p0(a)).
+cnf(step_0,axiom,p0(X) | ~p1(g(X,X))).
+cnf(step_1,axiom,p1(X) | ~p2(g(X,X))).
+cnf(step_2,axiom,p2(X) | ~p3(g(X,X))).
+cnf(step_3,axiom,p3(X) | ~p4(g(X,X))).
+cnf(step_4,axiom,p4(X) | ~p5(g(X,X))).
+cnf(step_5,axiom,p5(X) | ~p6(g(X,X))).
+cnf(step_6,axiom,p6(X) | ~p7(g(X,X))).
+cnf(step_7,axiom,p7(X) | ~p8(g(X,X))).
+cnf(step_8,axiom,p8(X) | ~p9(g(X,X))).
+cnf(step_9,axiom,p9(X) | ~p10(g(X,X))).
+cnf(step_10,axiom,p10(X) | ~p11(g(X,X))).
+cnf(step_11,axiom,p11(X) | ~p12(g(X,X))).
+cnf(step_12,axiom,p12(X) | ~p13(g(X,X))).
+cnf(step_13,axiom,p13(X) | ~p14(g(X,X))).
+cnf(step_14,axiom,p14(X) | ~p15(g(X,X))).
+cnf(step_15,axiom,p15(X) | ~p16(g(X,X))).
+cnf(step_16,axiom,p16(X) | ~p17(g(X,X))).
+cnf(step_17,axiom,p17(X) | ~p18(g(X,X))).
+cnf(step_18,axiom,p18(X) | ~p19(g(X,X))).
+cnf(step_19,axiom,p19(X) | ~p20(g(X,X))).
+cnf(step_20,axiom,p20(X) | ~p21(g(X,X))).
+cnf(step_21,axiom,p21(X) | ~p22(g(X,X))).
+cnf(step_22,axiom,p22(X) | ~p23(g(X,X))).
+cnf(step_23,axiom,p23(X) | ~p24(g(X,X))).
+cnf(step_24,axiom,p24(X) | ~p25(g(X,X))).
+cnf(step_25,axiom,p25(X) | ~p26(g(X,X))).
+cnf(step_26,axiom,p26(X) | ~p27(g(X,X))).
+cnf(step_27,axiom,p27(X) | ~p28(g(X,X))).
+cnf(top,axiom,p28(X)).
