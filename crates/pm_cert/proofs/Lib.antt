@@ -9,4 +9,5 @@ pub mod DeterminedLemmas
 pub mod PlainLemmas
 pub mod OrderLemmas
 pub mod ReadBackLemmas
+pub mod SaysLemmas
 pub mod CertifiableLemmas

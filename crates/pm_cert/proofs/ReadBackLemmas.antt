@@ -27,8 +27,8 @@ use Rattle.pm_certread.specs.Reading.{Head, TermLines, NodeLines, Stage, opening
 use Rattle.pm_certread.proofs.NodeLemmas.{deepest_grows}
 use Rattle.pm_cert.specs.Ancestors.{PlacedNode, placed_nodes, IsComplementaryAt, IsCloser}
 use Rattle.pm_cert.specs.Terms.{ArePlacesOf}
-use Rattle.pm_cert.specs.Text.{SearchReport, header_of, header_line, IsTermLine, IsEndingOf, IsLineOf}
-use Rattle.pm_cert.specs.Laws.{IsCloserBeside, CertificatesReadBack}
+use Rattle.pm_cert.specs.Text.{SearchReport, header_of, header_line, IsTermLine, IsEndingOf, IsLineOf, IsDocument}
+use Rattle.pm_cert.specs.Laws.{IsCloserBeside, IsCertifiable, HasSmallNumbers, CertificatesReadBack}
 use Rattle.pm_cert.specs.Inside.Listing.{HasArgsIn, FollowArgs}
 use Rattle.pm_cert.proofs.OrderLemmas.{AreInTurn, listed-in_turn, AreNested, nested_nodes, shallow_nodes, entry_at, entries_among}
 use Rattle.pm_cert.proofs.DocumentLemmas.{listed-follow, listed-over, nested_lines, document_nested}
@@ -106,7 +106,7 @@ not_before before rest t distinct there =
     middle [] = refl
     middle (x ∷ xs) = middle xs
 
-places_small : (full : List Term) (args : List Term) (numbers : List ℕ) → IsNumber (length full) → ArePlacesOf full args numbers → All IsNumber numbers
+pub places_small : (full : List Term) (args : List Term) (numbers : List ℕ) → IsNumber (length full) → ArePlacesOf full args numbers → All IsNumber numbers
 places_small full [] [] few places = All-nil IsNumber
 places_small full [] (n ∷ ns) few places = absurd cc
 places_small full (t ∷ ts) [] few places = absurd cc
@@ -346,7 +346,7 @@ header_is Inferences h same size count number = record { size = size; terms = co
 
 -- ---- no line has an LF
 
-levels_inside : (level : ℕ) (works : List ℕ) → IsNumber (level + length works) → All IsNumber works → HaveNoEnds (level_lines_from level works)
+pub levels_inside : (level : ℕ) (works : List ℕ) → IsNumber (level + length works) → All IsNumber works → HaveNoEnds (level_lines_from level works)
 levels_inside level [] few small = tt
 levels_inside level (work ∷ works) few small =
     let next : IsNumber (level + 1 + length works) = omega arith in
@@ -417,6 +417,47 @@ ended_lines report tableau full term_lines lines =
     (map-append ended term_lines rest
     ∙ ap (λ (ps : List (List ℕ)). map ended term_lines ++ (ended (root_line tableau.root) ∷ ps)) last))
 
+module _ (over : Problem) (report : SearchReport) (tableau : Tableau) (text : List ℕ) (ok : IsCertifiable over tableau) (small : HasSmallNumbers report tableau)
+    (document : IsDocument over.symbols report tableau text) where
+  pub few_terms : IsNumber (length document.terms)
+  few_terms = small.terms document.terms document.listed
+
+  root_number : IsNumber tableau.root
+  root_number = omega (arith, ok.root, ok.valid.few)
+
+  -- each node's line has its form
+  pub fit_nodes : All (λ p. IsFit over ok.symbols.vars (entry_at p)) (placed_nodes tableau)
+  fit_nodes =
+      let shallow = shallow_nodes tableau 250 ok.shallow in
+      all_unmap (IsFit over ok.symbols.vars) entry_at (placed_nodes tableau)
+      (subst (All (IsFit over ok.symbols.vars)) (sym (entries_among [] tableau.children))
+      (λ k d lt. record { literal = ok.symbols.literals k d lt; clause = ok.clauses k d lt; shallow = shallow k d lt }))
+
+  abbrev pub pieces_after_levels : List (List ℕ)
+  pieces_after_levels =
+      ended (proof_line (length report.works) report.last)
+      ∷ (ended (header_line report.bound (header_of report tableau document.terms))
+      ∷ (map ended document.term_lines ++ (ended (root_line tableau.root) ∷ (map (λ (l : NodeLine). ended (node_line l)) document.nodes ++ (ended end_line ∷ [])))))
+
+  -- the pieces into which the document is cut
+  pub document_pieces : cut_lines text ≡ ended status_line ∷ (map ended (level_lines report.works) ++ pieces_after_levels)
+  document_pieces =
+      let from_zero : length report.works ≡ 0 + length report.works = omega arith in
+      let inside : HaveNoEnds (nested_lines report tableau document.terms document.term_lines (map node_line document.nodes)) = (
+        refl,
+        no_ends-append (level_lines report.works) _ (levels_inside 0 report.works (subst IsNumber from_zero small.levels) small.works) (
+          proof_inside (length report.works) report.last small.levels small.last,
+          (
+            header_inside report.bound (header_of report tableau document.terms) small.size few_terms small.nodes,
+            no_ends-append document.term_lines _ (terms_inside over document.terms ok.valid few_terms document.terms document.term_lines document.lines_of_terms)
+                (root_inside tableau.root root_number, no_ends-append (map node_line document.nodes) _ (nodes_inside over document.terms ok.valid few_terms ok.symbols.vars (placed_nodes tableau) document.nodes fit_nodes document.lines_of_nodes) (refl, tt)),
+          ),
+        ),
+      ) in
+      ap cut_lines (document.is ∙ ap text_of (document_nested report tableau document.terms document.term_lines document.nodes))
+      ∙ cut_text (nested_lines report tableau document.terms document.term_lines (map node_line document.nodes)) inside
+      ∙ ended_lines report tableau document.terms document.term_lines document.nodes
+
 pub read_back : CertificatesReadBack
 read_back over report tableau text ok small document =
     let full : List Term = document.terms in
@@ -427,10 +468,7 @@ read_back over report tableau text ok small document =
     let placed : List PlacedNode = placed_nodes tableau in
     let are : map entry_at placed ≡ preorder tableau = entries_among [] tableau.children in
     let closers : List ℕ = map (λ (l : NodeLine). closer_of l.ending) document.nodes in
-    let shallow = shallow_nodes tableau 250 ok.shallow in
-    let fit : All (λ p. IsFit over vars (entry_at p)) placed =
-    all_unmap (IsFit over vars) entry_at placed
-    (subst (All (IsFit over vars)) (sym are) (λ k d lt. record { literal = ok.symbols.literals k d lt; clause = ok.clauses k d lt; shallow = shallow k d lt })) in
+    let fit = fit_nodes over report tableau text ok small document in
     let nested : AreNested 1 (map entry_at placed) = subst (AreNested 1) (sym are) (nested_nodes tableau) in
     let term_count : length document.term_lines ≡ length full = count_beside (IsTermLine over.symbols full) full document.term_lines document.lines_of_terms in
     let node_count : length document.nodes ≡ length placed = count_beside (IsLineOf over.symbols full) placed document.nodes document.lines_of_nodes in
@@ -454,7 +492,7 @@ read_back over report tableau text ok small document =
     let after_terms : List (List ℕ) = ended (root_line tableau.root) ∷ (node_lines ++ last) in
     let after_header : List (List ℕ) = map ended document.term_lines ++ after_terms in
     let at_root : ℕ = place + 1 + length full in
-    let root_small : IsNumber tableau.root = omega (arith, ok.root, ok.valid.few) in
+    let root_small = root_number over report tableau text ok small document in
     let ends : Ends (nodes head (lines_for full) all) (ended end_line) certificate = (
       omega (arith, entry_count, length-map placed entry_at),
       refl,
@@ -494,21 +532,7 @@ read_back over report tableau text ok small document =
     (subst (λ (k : ℕ). ReadsFrom over (levels k) (1 + length report.works) after_levels outcome) from_zero at_proof) in
     let at_start : ReadsFrom over opening 0 (ended status_line ∷ (map ended (level_lines report.works) ++ after_levels)) outcome =
     leads_on over opening (levels 0) 0 (ended status_line) (map ended (level_lines report.works) ++ after_levels) outcome (refl, refl) at_levels in
-    let inside : HaveNoEnds (nested_lines report tableau full document.term_lines (map node_line document.nodes)) = (
-      refl,
-      no_ends-append (level_lines report.works) _ (levels_inside 0 report.works (subst IsNumber from_zero small.levels) small.works) (
-        proof_inside (length report.works) report.last small.levels small.last,
-        (
-          header_inside report.bound h small.size few small.nodes,
-          no_ends-append document.term_lines _ (terms_inside over full ok.valid few full document.term_lines document.lines_of_terms)
-              (root_inside tableau.root root_small, no_ends-append (map node_line document.nodes) _ (nodes_inside over full ok.valid few vars placed document.nodes fit document.lines_of_nodes) (refl, tt)),
-        ),
-      ),
-    ) in
-    let pieces : cut_lines text ≡ ended status_line ∷ (map ended (level_lines report.works) ++ after_levels) =
-    ap cut_lines (document.is ∙ ap text_of (document_nested report tableau full document.term_lines document.nodes))
-    ∙ cut_text (nested_lines report tableau full document.term_lines (map node_line document.nodes)) inside
-    ∙ ended_lines report tableau full document.term_lines document.nodes in (
+    let pieces = document_pieces over report tableau text ok small document in (
       certificate,
       subst (λ (raws : List (List ℕ)). ReadsFrom over opening 0 raws outcome) (sym pieces) at_start,
       record {

@@ -1,6 +1,6 @@
 mod TextLemmas
-mod LineLemmas
+pub mod LineLemmas
 mod SampleLemmas
 mod ValidLemmas
 mod MarkLemmas
-mod SummaryLemmas
+pub mod SummaryLemmas

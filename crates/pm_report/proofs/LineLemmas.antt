@@ -74,7 +74,7 @@ level_lines_differ level other work more small small_other small_work small_more
     (decimal_injective level other small small_other parts.0, decimal_injective work more small_work small_more attempts)
 
 -- a budget's line is no level's
-budget_differs : (level other work : ℕ) → level < 2 ^ 64 → other < 2 ^ 64 → budget_line other ≡ level_line level work → ⊥
+pub budget_differs : (level other work : ℕ) → level < 2 ^ 64 → other < 2 ^ 64 → budget_line other ≡ level_line level work → ⊥
 budget_differs level other work small small_other e =
     let tail : decimal other ++ 32 ∷ codes "budget" ≡ decimal level ++ 32 ∷ exhausted_text work = ap (drop 6) e in
     let parts = cut_at_blank (decimal other) (decimal level) (codes "budget") (exhausted_text work) (decimal_solid other small_other) (decimal_solid level small) tail in
@@ -130,7 +130,7 @@ contains_here x ys = (0, omega arith, refl)
 pub contains_later : {X : Type 0} (y x : X) (ys : List X) → Contains ys x → Contains (y ∷ ys) x
 contains_later y x ys h = (suc h.0, omega (arith, h.1), h.2)
 
-said_level : (from : ℕ) (works : List ℕ) (level work : ℕ) → from + length works < 2 ^ 64 → All (λ w. w < 2 ^ 64) works → level < 2 ^ 64 → work < 2 ^ 64
+pub said_level : (from : ℕ) (works : List ℕ) (level work : ℕ) → from + length works < 2 ^ 64 → All (λ w. w < 2 ^ 64) works → level < 2 ^ 64 → work < 2 ^ 64
     → Contains (level_lines_from from works) (level_line level work) → (i : ℕ) × (level ≡ from + i) × (slice_get works i ≡ Some work)
 said_level from [] level work few small small_level small_work h = absurd (omega (arith, h.1))
 said_level from (w ∷ works) level work few small small_level small_work h =

@@ -1,6 +1,13 @@
-pub mod TextLemmas
 pub mod Puts
-pub mod Runs
-pub mod Searches
 pub mod Followed
 pub mod Determined
+pub mod Searches
+pub mod Lines
+pub mod Says
+pub mod Limits
+pub mod Counted
+pub mod Answered
+pub mod Gained
+pub mod Ran
+pub mod Fetched
+pub mod Checks

@@ -1,2 +1,4 @@
 -- Models of private code: no public contract names them.
-pub mod Faults
+pub mod Stops
+pub mod Found
+pub mod Says

@@ -1,6 +1,5 @@
 pub mod Status
-pub mod Text
-pub mod JobWords
-pub mod JobViews
+pub mod Files
+pub mod Output
 pub mod Run
 pub mod Inside

@@ -1,180 +1,186 @@
--- What a run learns of its file, what it prints, and what each of its ends says.
-use Rattle.std.specs.Prelude.{◌≡◌, ℕ, ◌<◌, ◌≤◌, ◌⊎◌, List, [], length, Option, None, Some, IsNone, IfSome, IsSomeAnd}
+-- What a run promises: its causes, what it writes, and what its lines say.
+use Rattle.std.specs.Prelude.{◌≡◌, ℕ, ◌^◌, ◌<◌, ◌≤◌, ◌⊎◌, List, [], ◌++◌, Option, None, Some, Contains, ⊤}
 use Rattle.std.specs.FinMap as map
-use Rattle.pm_logic.specs.declared.problem.Class.TheVariants.{Plain}
-use Rattle.pm_logic.specs.declared.tableau.BoundKind.TheVariants.{Depth}
-use Rattle.pm_logic.specs.declared.problem.Start.TheVariants.{Negative}
 use Rattle.pm_logic.specs.Problem.{Problem}
-use Rattle.pm_logic.specs.Tableau.{Tableau, depth}
-use Rattle.pm_calculus.specs.Connection.{Level, IsInClass}
+use Rattle.pm_logic.specs.Tableau.{Tableau, size}
+use Rattle.pm_calculus.specs.Connection.{IsInClass}
 use Rattle.pm_calculus.specs.Truth.{Atom, HasFalseInstance}
-use Rattle.pm_outside.specs.Outside.{Files, Rose, Appends, AppendsPrefix}
-use Rattle.pm_deepen.specs.declared.DeepEnd.{DeepEnd}
-use Rattle.pm_deepen.specs.declared.DeepEnd.TheVariants.{Proof, DepthReached, BudgetOut}
-use Rattle.pm_deepen.specs.Levels.{Options, level_at, IsAnswerOf}
-use Rattle.pm_top.specs.declared.run.TheConstants.{MAX_FILE_BYTES}
+use Rattle.pm_choice.specs.declared.Bound.TheVariants.{End}
+use Rattle.pm_choice.specs.Entries.{Closes}
+use Rattle.pm_search.specs.Attempts.{attempts_of}
+use Rattle.pm_search.specs.Work.{Exceeds}
+use Rattle.pm_outside.specs.Outside.{Files, LibraryView, Rose, CountsOnly, Appends, AppendsPrefix}
+use Rattle.pm_deepen.specs.Levels.{key_of, level_at}
+use Rattle.pm_certread.specs.Certificate.{Certificate}
+use Rattle.pm_certread.specs.Lines.{Line, ended, cut_lines, status_line, level_line}
+use Rattle.pm_certread.specs.Reading.{accepted, Reads}
+use Rattle.pm_args.specs.declared.job.Options.{Options}
+use Rattle.pm_args.specs.Words.{Text}
+use Rattle.pm_args.specs.Jobs.{Job, prove, sample, job_of}
+use Rattle.pm_top.specs.declared.files.TheConstants.{MAX_CERT_BYTES, MAX_FILE_BYTES}
 use Rattle.pm_top.specs.declared.status.Status.{Status}
 use Rattle.pm_top.specs.declared.status.Status.TheVariants as ends
-use Rattle.pm_scan.specs.declared.offence.CnfKind.{CnfKind}
-use Rattle.pm_cnf.specs.declared.limits.Limits.{Limits}
-use Rattle.pm_scan.specs.Lexemes.{line_of, column_of}
-use Rattle.pm_cnf.specs.Offences.{IsFirstOffence}
-use Rattle.pm_cnf.specs.Meaning.{IsProblemIn}
-use Rattle.pm_cnf.specs.Refusals.{before}
-use Rattle.pm_write.specs.Text.{problem_text}
-use Rattle.pm_certread.specs.Certificate.{Certificate}
-use Rattle.pm_certread.specs.Reading.{accepted, Reads}
-use Rattle.pm_cert.specs.Text.{SearchReport, report_of, IsDocument}
-use Rattle.pm_cert.specs.Laws.{IsCertificateFor}
-use Rattle.pm_top.specs.JobWords.{Job, prove, clauses, file_of, job_of}
-use Rattle.pm_top.specs.Text.{gave_up, resource_out, bad_words, input_error, too_long}
+use Rattle.pm_top.specs.Files.{Held, these_bytes, clauses_named, cert_named, Given, given_by, held_in}
+use Rattle.pm_top.specs.Output.{searched_with, IsProblemOf, IsOffence, OutputOf, Output}
 
--- what a run learns of its file: the words are no job, these are the job and the file's bytes, or
--- the file is over the limit
-pub data Fetched : Type 0 where
-  no_file : Fetched
-  these_bytes : Job → List ℕ → Fetched
-  over_limit : Fetched
+-- what callers see of a sink: its count of faults, and what it has got where it tells that
+pub record SinkView : Type 0 where
+  pub faults : ℕ
+  pub written : Option (List ℕ)
 
--- It learnt this of the words and, where the library tells its files, of the file; and it learns
--- that a file is over the limit only where the library's count of such files rose. (Its values
--- before and after the run are `longs`.)
-abbrev pub HasLearnt : List (List ℕ) → Option Files → ℕ × ℕ → Fetched → Type 0
-HasLearnt words told longs no_file = IsNone (job_of words)
-HasLearnt words told longs (these_bytes job bytes) =
-    (job_of words ≡ Some job) × (length bytes ≤ MAX_FILE_BYTES)
-    × IfSome told (λ files. map.get files (file_of job) ≡ Some bytes)
-HasLearnt words told longs over_limit =
-    Rose longs.0 longs.1
-    × IsSomeAnd (job_of words) (λ job. IfSome told (λ files.
-    IsSomeAnd (map.get files (file_of job)) (λ bytes. MAX_FILE_BYTES < length bytes)))
+-- the view of a sink, from what shows its parts
+abbrev pub sink_view : {A : Type 0} → (A → ℕ) → (A → Option (List ℕ)) → A → SinkView
+sink_view faults written sink = record { faults = faults sink; written = written sink }
 
--- the limits of every clause file
-abbrev pub standard_limits : Limits
-standard_limits =
-    record { clauses = 65536; literals = 255; variables = 1000; arity = 255; nesting = 1000 }
+-- ---- what a run reads
 
--- what a problem is searched with
-abbrev pub standard : Options
-standard =
-    record { class = Plain; start = Negative; bound = Depth; depth = 30; budget = 1000000 }
+-- words that are no job name no file, and the job of a sample names none
+abbrev pub NamesNoFile : Option Job → Type 0
+NamesNoFile None = ⊤
+NamesNoFile (Some (sample n options)) = ⊤
+NamesNoFile (Some job) = ⊥
 
--- the level of this depth
-abbrev pub level_of : Problem → ℕ → Level
-level_of problem at_depth = level_at problem standard at_depth
+-- These are a run's files: those that the library tells, or none where the words name none.
+abbrev pub AreFilesOf : Option Job → Option Files → Files → Type 0
+AreFilesOf job told files = (told ≡ Some files) ⊎ (NamesNoFile job × (files ≡ map.empty))
 
-abbrev pub status_of : DeepEnd → Status
-status_of (Proof level path work) = ends.Done
-status_of DepthReached = ends.DepthReached
-status_of (BudgetOut level) = ends.Budget
+-- ---- what a run writes
 
--- what a proof's text says of the search
-abbrev pub report : List ℕ → ℕ → SearchReport
-report works work = report_of standard.class standard.start standard.bound works work
+-- What has been written where a run ends so: the text of the output with this status; nothing on a
+-- fault of reading, on want of memory and where a file is missing; and where the sink failed, a
+-- prefix of the text of some output.
+abbrev pub HasWritten :
+    Option Job → Given → Option (List ℕ) → Option (List ℕ) → Status → Type 0
+HasWritten job given old new ends.ReadFault = new ≡ old
+HasWritten job given old new ends.NoMemory = new ≡ old
+HasWritten job given old new ends.Missing =
+    (new ≡ old) × OutputOf job given ends.Missing []
+HasWritten job given old new ends.WriteFault =
+    (status : Status) × (text : List ℕ) × OutputOf job given status text
+    × AppendsPrefix old new text
+HasWritten job given old new status =
+    (text : List ℕ) × OutputOf job given status text × Appends old new text
 
--- the text is the certificate of the tableau, and reads as it
-pub record IsProofText (problem : Problem) (report : SearchReport) (tableau : Tableau)
-    (text : List ℕ) : Type 0 where
-  pub document : IsDocument problem.symbols report tableau text
+-- the sink, which tells what it has got, has got this line
+abbrev pub HasGot : Option (List ℕ) → Option (List ℕ) → Line → Type 0
+HasGot (Some old) (Some new) line =
+    (gained : List ℕ) × (new ≡ old ++ gained) × Contains (cut_lines gained) (ended line)
+HasGot old new line = ⊥
+
+-- ---- what its lines say
+
+-- the problem has no tableau of the level's class, and the level takes so many attempts
+pub record IsExhausted (problem : Problem) (options : Options) (level work : ℕ) : Type 0 where
+  pub none :
+      (tableau : Tableau) → ¬ IsInClass (level_at problem (searched_with options) level) tableau
+  pub attempts :
+      Closes (attempts_of (key_of (level_at problem (searched_with options) level))) [] End work
+
+-- no class of a lower level has a member
+abbrev pub IsLeast : Problem → Options → ℕ → Type 0
+IsLeast problem options level =
+    (lower : ℕ) → lower < level → (tableau : Tableau)
+    → ¬ IsInClass (level_at problem (searched_with options) lower) tableau
+
+-- The text reads as a certificate whose tableau is in the level's class and has the level as its
+-- size, while no lower level has a tableau; and each truth assignment makes some clause instance of
+-- the tableau false.
+pub record IsRefutedBy (problem : Problem) (options : Options) (level : ℕ) (text : List ℕ)
+    : Type 0 where
   pub certificate : Certificate
   pub reads : Reads problem text (accepted certificate)
-  pub for : IsCertificateFor report tableau certificate
+  pub size_is : size options.bound certificate.tableau.tableau ≡ level
+  pub member :
+      IsInClass (level_at problem (searched_with options) level) certificate.tableau.tableau
+  pub least : IsLeast problem options level
+  pub refuted :
+      (atoms : List Atom) → HasFalseInstance problem.clauses certificate.tableau.tableau atoms
 
--- a tableau goes with a proof alone
-abbrev pub IsTextOf : Problem → List ℕ → DeepEnd → Option Tableau → List ℕ → Type 0
-IsTextOf problem works (Proof level path work) (Some tableau) text =
-    IsProofText problem (report works work) tableau text
-IsTextOf problem works (Proof level path work) None text = ⊥
-IsTextOf problem works DepthReached tableau text = text ≡ gave_up works
-IsTextOf problem works (BudgetOut level) tableau text = text ≡ resource_out works
+-- The level is the least that has a tableau, it isn't above the depth, and no level up to it exceeds
+-- the budget.
+pub record IsSolvable (problem : Problem) (options : Options) (level : ℕ) : Type 0 where
+  pub reached : level ≤ options.depth
+  pub tableau : Tableau
+  pub member : IsInClass (level_at problem (searched_with options) level) tableau
+  pub least : IsLeast problem options level
+  pub within :
+      (lower : ℕ) → lower ≤ level
+      → ¬ Exceeds (key_of (level_at problem (searched_with options) lower)) options.budget
 
--- The tableau proves the problem unsatisfiable at this depth: it is a closed connection tableau of
--- the class, it is as deep as that, and under each truth assignment some clause instance of it is
--- false.
-pub record IsProofAt (problem : Problem) (level : ℕ) (tableau : Tableau) : Type 0 where
-  pub member : IsInClass (level_of problem level) tableau
-  pub deep : depth tableau ≡ level
-  pub refuted : (atoms : List Atom) → HasFalseInstance problem.clauses tableau atoms
+-- the clause file has a problem of which this holds
+abbrev pub HasProblem : Held → (Problem → Type 0) → Type 0
+HasProblem held holds = (problem : Problem) × IsProblemOf held problem × holds problem
 
--- The search of a problem ends so: status and text are those of its answer. No level that is
--- printed as exhausted has a closed connection tableau, and a tableau that is printed is a proof at
--- the next level.
-pub record EndsSearch (problem : Problem) (status : Status) (text : List ℕ) : Type 0 where
-  pub works : List ℕ
-  pub end : DeepEnd
-  pub tableau : Option Tableau
-  pub answer : IsAnswerOf problem standard works end tableau
-  pub status_is : status ≡ status_of end
-  pub text_is : IsTextOf problem works end tableau text
+-- the output is of unsatisfiable clauses, refuted at this level
+abbrev pub IsRefutation : Option Job → Given → Options → ℕ → List ℕ → Type 0
+IsRefutation job given options level text =
+    OutputOf job given ends.Done text
+    × HasProblem given.clauses (λ problem. IsRefutedBy problem options level text)
+
+-- ---- the whole
+
+-- there is such a file, within its limit
+abbrev pub IsThere : Files → ℕ → Option Text → Type 0
+IsThere files limit None = ⊤
+IsThere files limit (Some name) =
+    (bytes : List ℕ) × (held_in files limit (Some name) ≡ these_bytes bytes)
+
+-- no fault rose, neither of the library nor of the sink
+pub record HasNoFault (before after : LibraryView) (old new : SinkView) : Type 0 where
+  pub library : ¬ Rose before.faults after.faults
+  pub sink : ¬ Rose old.faults new.faults
+
+-- All that holds where a run of words ends with a status. The library is seen before and after it,
+-- and so is the sink.
+pub record IsRun (words : List Text) (before after : LibraryView) (old new : SinkView)
+    (status : Status) : Type 0 where
+  -- what its files hold
+  pub given : Given
+  pub told :
+      (files : Files) → AreFilesOf (job_of words) before.told files
+      → given ≡ given_by files (job_of words)
+  -- each fault has its cause
+  pub missing : status ≡ ends.Missing → Rose before.misses after.misses
+  pub read_fault : status ≡ ends.ReadFault → Rose before.faults after.faults
+  pub write_fault : status ≡ ends.WriteFault → Rose old.faults new.faults
+  pub bad_input :
+      status ≡ ends.BadInput
+      → ((text : List ℕ) × IsOffence given.clauses text) ⊎ Rose before.longs after.longs
+  -- A count changes only where the run ends with its fault. So each of them is as before after want
+  -- of memory.
+  pub misses : CountsOnly (status ≡ ends.Missing) before.misses after.misses
+  pub faults : CountsOnly (status ≡ ends.ReadFault) before.faults after.faults
+  pub longs :
+      CountsOnly ((status ≡ ends.BadInput) ⊎ (status ≡ ends.WriteFault))
+      before.longs after.longs
+  pub puts : CountsOnly (status ≡ ends.WriteFault) old.faults new.faults
+  -- the output's text is written, and nothing else
+  pub written : HasWritten (job_of words) given old.written new.written status
+  -- what a proof search has written tells only what is so
   pub exhausted :
-      (level : ℕ) → level < length works → (member : Tableau)
-      → IsInClass (level_of problem level) member → ⊥
-  pub proved : IfSome tableau (IsProofAt problem (length works))
-
--- the text names the first offence of the bytes and its place
-abbrev pub IsRefusal : List ℕ → List ℕ → Type 0
-IsRefusal bytes text =
-    (rest : List ℕ) × (kind : CnfKind) × IsFirstOffence standard_limits bytes rest kind
-    × (text ≡ input_error (line_of (before bytes rest)) (column_of (before bytes rest)) kind)
-
--- The status and text with which the proof of these bytes ends: they are refused exactly where they
--- have an offence.
-abbrev pub EndsProof : List ℕ → Status → List ℕ → Type 0
-EndsProof bytes ends.BadInput text = IsRefusal bytes text
-EndsProof bytes status text =
-    (problem : Problem) × IsProblemIn standard_limits bytes problem
-    × EndsSearch problem status text
-
--- The status and text with which the writing of these bytes' clauses ends: they are refused exactly
--- where they have an offence.
-abbrev pub EndsClauses : List ℕ → Status → List ℕ → Type 0
-EndsClauses bytes ends.BadInput text = IsRefusal bytes text
-EndsClauses bytes ends.Done text =
-    (problem : Problem) × IsProblemIn standard_limits bytes problem × (text ≡ problem_text problem)
-EndsClauses bytes status text = ⊥
-
-abbrev pub EndsJob : Job → List ℕ → Status → List ℕ → Type 0
-EndsJob (prove file) bytes status text = EndsProof bytes status text
-EndsJob (clauses file) bytes status text = EndsClauses bytes status text
-
--- the status and text of what was learnt
-abbrev pub IsOutput : Fetched → Status → List ℕ → Type 0
-IsOutput no_file ends.BadWords text = text ≡ bad_words
-IsOutput no_file status text = ⊥
-IsOutput over_limit ends.BadInput text = text ≡ too_long 1
-IsOutput over_limit status text = ⊥
-IsOutput (these_bytes job bytes) status text = EndsJob job bytes status text
-
--- a run's output: what it learnt, and the status and the text of that
-pub record Output (words : List (List ℕ)) (told : Option Files) (longs : ℕ × ℕ)
-    (status : Status) (text : List ℕ) : Type 0 where
-  pub fetched : Fetched
-  pub learnt : HasLearnt words told longs fetched
-  pub output : IsOutput fetched status text
-
--- What has been written where a run ends so: nothing on a fault of reading and on want of memory, a
--- prefix of some output's text where the sink failed, and else the text of the output of this
--- status.
-abbrev pub HasWritten :
-    List (List ℕ) → Option Files → ℕ × ℕ → Option (List ℕ) → Option (List ℕ) → Status → Type 0
-HasWritten words told longs old new ends.Missing = new ≡ old
-HasWritten words told longs old new ends.ReadFault = new ≡ old
-HasWritten words told longs old new ends.NoMemory = new ≡ old
-HasWritten words told longs old new ends.WriteFault =
-    (status : Status) × (text : List ℕ) × Output words told longs status text
-    × AppendsPrefix old new text
-HasWritten words told longs old new status =
-    (text : List ℕ) × Output words told longs status text × Appends old new text
-
--- the file that the words name isn't among the told ones
-abbrev pub IsMissing : List (List ℕ) → Option Files → Type 0
-IsMissing words told =
-    IsSomeAnd (job_of words) (λ job. IfSome told (λ files. map.get files (file_of job) ≡ None))
-
--- words and files determine the status and the text
-abbrev pub OutputIsDetermined : Type 0
-OutputIsDetermined =
-    (words : List (List ℕ)) (files : Files) (longs longs_then : ℕ × ℕ) (status other : Status)
-    (text second : List ℕ)
-    → Output words (Some files) longs status text
-    → Output words (Some files) longs_then other second → (status ≡ other) × (text ≡ second)
+      (file : Text) (options : Options) (level work : ℕ)
+      → job_of words ≡ Some (prove file options) → level < 2 ^ 64 → work < 2 ^ 64
+      → HasGot old.written new.written (level_line level work)
+      → HasProblem given.clauses (λ problem. IsExhausted problem options level work)
+  pub unsatisfiable :
+      (file : Text) (options : Options) → job_of words ≡ Some (prove file options)
+      → HasGot old.written new.written status_line
+      → (level : ℕ) × (text : List ℕ) × IsRefutation (job_of words) given options level text
+  -- where the files are there and no fault rises, the output comes, and what has a proof within
+  -- depth and budget is proved
+  pub complete :
+      (files : Files) (job : Job) → before.told ≡ Some files → job_of words ≡ Some job
+      → IsThere files MAX_FILE_BYTES (clauses_named job)
+      → IsThere files MAX_CERT_BYTES (cert_named job)
+      → HasNoFault before after old new
+      → (status ≡ ends.NoMemory)
+      ⊎ ((text : List ℕ) × Output words files status text
+      × Appends old.written new.written text)
+  pub proves :
+      (file : Text) (options : Options) (level : ℕ)
+      → job_of words ≡ Some (prove file options)
+      → HasProblem given.clauses (λ problem. IsSolvable problem options level)
+      → HasNoFault before after old new
+      → (status ≡ ends.NoMemory)
+      ⊎ ((status ≡ ends.Done)
+      × ((text : List ℕ) × IsRefutation (job_of words) given options level text))

@@ -1,5 +1,5 @@
 //! Writing a text to a sink.
-ghost use Rattle.std.specs.Prelude.{◌≡◌, ◌≤◌, OnOk, OnErr};
+ghost use Rattle.std.specs.Prelude.{◌≡◌, ◌<◌, ◌≤◌, OnOk, OnErr, length};
 ghost use Rattle.pm_outside.specs.Outside.{Appends, AppendsPrefix, Rose};
 
 use pm_outside::{PutFault, Sink};
@@ -12,6 +12,7 @@ pub fn put_text<S: Sink>(sink: &mut S, text: &[u8]) -> Result<(), PutFault>
     ensures all { OnOk result (Appends (S.written sink.old) (S.written sink.new) text.now) }
     ensures prefix { OnErr result
         (AppendsPrefix (S.written sink.old) (S.written sink.new) text.now) }
+    ensures piece { OnErr result (0 < length text.now) }
     ensures failed { OnErr result (Rose (S.faults sink.old) (S.faults sink.new)) }
     ensures unfailed { OnOk result (S.faults sink.new ≡ S.faults sink.old) }
     ensures faults { S.faults sink.old ≤ S.faults sink.new }

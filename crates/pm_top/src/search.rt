@@ -1,0 +1,141 @@
+//! The search for a proof, and the answers for its ends.
+ghost use Rattle.std.specs.Prelude.{◌≡◌, ◌≤◌, IfOk};
+ghost use Rattle.pm_calculus.specs.Choices.{IsComplete, IsGeneral};
+ghost use Rattle.pm_logic.specs.Problem.{IsValid};
+ghost use Rattle.pm_report.specs.Sample.{sample_problem};
+ghost use Rattle.pm_tab.specs.Searched.{level_of};
+ghost use Rattle.pm_top.specs.Output.{EndsSample, status_of};
+ghost use Rattle.pm_top.specs.Inside.Found.{IsFoundIn};
+ghost use Rattle.pm_top.specs.Inside.Says.{IsSearchAnswer};
+ghost use Rattle.pm_top.specs.Inside.Stops.{AreWithinLimits};
+
+use crate::answer::Answer;
+use crate::status::Status;
+use pm_args::Options;
+use pm_cert::write_cert;
+use pm_deepen::{DeepEnd, Outcome, deepen_alone};
+use pm_logic::{Problem, Tableau};
+use pm_report::{gave_up, resource_out, summary};
+use pm_space::{Maker, Space};
+use pm_tab::TabMaker;
+use std::alloc::{AllocError, Global};
+
+/// How a search ended, with the tableau of a proof.
+#[derive(Drop)]
+pub(crate) struct Found {
+    outcome: Outcome,
+    tableau: Option<Tableau>,
+}
+
+// The general tableau of a complete list at a level.
+fn general_tableau(
+    alloc: Global,
+    maker: &TabMaker<'_>,
+    level: u32,
+    path: &[u32],
+) -> Result<Tableau, AllocError>
+    requires level { level ≤ 250 }
+    requires complete { IsComplete (level_of maker.now level) path.now }
+    ensures { IfOk result
+        (λ drawn. IsGeneral (level_of maker.now level) path.now drawn.tableau) }
+{
+    let mut space = maker.make(alloc, level)?;
+    'choices: for &choice in path {
+        space.step(choice)?;
+    }
+    space.tableau(alloc)
+}
+
+/// Searches the tableaux of a problem, level by level, with one worker.
+pub(crate) fn search_alone(
+    alloc: Global,
+    problem: &Problem,
+    options: &Options,
+) -> Result<Found, AllocError>
+    requires { AreWithinLimits options.now }
+    ensures { IfOk result (IsFoundIn problem.now options.now) }
+{
+    let maker = TabMaker::new(alloc, problem, options.class, options.start, options.bound)?;
+    let outcome = deepen_alone(alloc, &&maker, options.depth, options.budget)?;
+    let tableau = match &outcome.end {
+        DeepEnd::Proof { depth, path, .. } => {
+            let tableau = general_tableau(alloc, &maker, *depth, path.as_slice())?;
+            Some(tableau)
+        }
+        _ => None,
+    };
+    Ok(Found { outcome, tableau })
+}
+
+// The status of a search that ended so.
+fn status_of(end: &DeepEnd) -> Status
+    ensures { result ≡ status_of end.now }
+{
+    match end {
+        DeepEnd::Proof { .. } => Status::Done,
+        DeepEnd::DepthReached => Status::DepthReached,
+        DeepEnd::BudgetOut { .. } => Status::Budget,
+    }
+}
+
+/// The answer for a search of a problem: a proof's text is its certificate.
+pub(crate) fn answer_search(
+    alloc: Global,
+    problem: &Problem,
+    options: &Options,
+    found: &Found,
+) -> Result<Answer, AllocError>
+    requires limits { AreWithinLimits options.now }
+    requires valid { IsValid problem.now }
+    requires found { IsFoundIn problem.now options.now found.now }
+    ensures { IfOk result (IsSearchAnswer problem.now options.now) }
+{
+    let works = &found.outcome.works;
+    match &found.outcome.end {
+        DeepEnd::DepthReached => Ok(Answer {
+            status: Status::DepthReached,
+            text: gave_up(alloc, works)?,
+        }),
+        DeepEnd::BudgetOut { .. } => Ok(Answer {
+            status: Status::Budget,
+            text: resource_out(alloc, works)?,
+        }),
+        DeepEnd::Proof { work, .. } => {
+            let Some(tableau) = &found.tableau else {
+                unreachable!()
+            };
+            Ok(Answer {
+                status: Status::Done,
+                text: write_cert(
+                    alloc,
+                    problem,
+                    tableau,
+                    options.class,
+                    options.start,
+                    options.bound,
+                    works,
+                    *work,
+                )?,
+            })
+        }
+    }
+}
+
+/// The answer for a search of the sample problem of this number: its summary.
+pub(crate) fn answer_sample(
+    alloc: Global,
+    n: u32,
+    problem: &Problem,
+    options: &Options,
+    found: &Found,
+) -> Result<Answer, AllocError>
+    requires sample { problem.now ≡ sample_problem n }
+    requires found { IsFoundIn problem.now options.now found.now }
+    ensures { IfOk result (λ answer. EndsSample n options.now answer.status answer.text.items) }
+{
+    let tableau = found.tableau.as_ref();
+    Ok(Answer {
+        status: status_of(&found.outcome.end),
+        text: summary(alloc, n, problem.clauses(), &found.outcome, tableau)?,
+    })
+}
