@@ -1,8 +1,8 @@
 //! The program: it does the job that its words ask for, on files and standard output.
 #![tactic(auto)]
 
-use pm_outside::{HostLibrary, HostSink};
-use pm_top::{Status, run_alone};
+use pm_outside::{HostLibrary, HostSink, OpenGate};
+use pm_top::{Status, run};
 use std::alloc::AllocError;
 use std::env;
 use std::io::ErrorKind;
@@ -24,7 +24,7 @@ fn main(rt: HostRuntime) -> ExitCode {
         Ok(words) => {
             let mut library = HostLibrary::new(&rt);
             let mut sink = HostSink::new(&rt);
-            run_alone(rt.alloc(), &words, &mut library, &mut sink)
+            run(&rt, rt.alloc(), &words, &mut library, &mut sink, &OpenGate)
         }
         Err(_) => Status::NoMemory,
     };

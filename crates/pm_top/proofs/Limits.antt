@@ -58,16 +58,16 @@ value_so P named default None h all = h
 value_so P named default (Some text) h all = all text
 
 abbrev AreFit : Numbers → Type 0
-AreFit numbers = (numbers.depth ≤ 250) × (numbers.budget ≤ 10 ^ 12)
+AreFit numbers = (numbers.depth ≤ 250) × (numbers.budget ≤ 10 ^ 12) × (1 ≤ numbers.workers) × (numbers.workers ≤ 64)
 
 numbers_so : (r : Reading) → IfSome (numbers_of r) AreFit
 numbers_so r =
     let depths = value_so (IsBetween 0 250) (number_within 0 250) 30 (value_of (codes "depth") r) (omega arith, omega arith) (number_so 0 250) in
     let budgets = value_so (IsBetween 1 (10 ^ 12)) (number_within 1 (10 ^ 12)) 1000000 (value_of (codes "budget") r) (omega arith, omega arith) (number_so 1 (10 ^ 12)) in
+    let workers_so = value_so (IsBetween 1 64) (number_within 1 64) 4 (value_of (codes "workers") r) (omega arith, omega arith) (number_so 1 64) in
     then_so (IsBetween 0 250) AreFit _ (value_or (number_within 0 250) 30 (value_of (codes "depth") r)) depths
     (λ depth d. then_so (IsBetween 1 (10 ^ 12)) AreFit _ (value_or (number_within 1 (10 ^ 12)) 1000000 (value_of (codes "budget") r)) budgets
-    (λ budget b. map_so Any AreFit _ (value_or (number_within 1 64) 4 (value_of (codes "workers") r)) (any_so (value_or (number_within 1 64) 4 (value_of (codes "workers") r)))
-    (λ workers w. (d.1, b.1))))
+    (λ budget b. map_so (IsBetween 1 64) AreFit _ (value_or (number_within 1 64) 4 (value_of (codes "workers") r)) workers_so (λ workers w. (d.1, b.1, w.0, w.1))))
 
 options_so : (r : Reading) → IfSome (options_of r) AreWithinLimits
 options_so r =

@@ -29,6 +29,7 @@ use Rattle.pm_args.specs.declared.job.Options.{Options}
 use Rattle.pm_top.specs.declared.status.Status.{Status}
 use Rattle.pm_top.specs.declared.status.Status.TheVariants as ends
 use Rattle.pm_top.specs.Output.{searched_with, status_of, report}
+use Rattle.pm_top.specs.Inside.Found.{searched_of}
 use Rattle.pm_top.specs.Run.{IsExhausted, IsLeast, IsRefutedBy, IsSolvable}
 
 module _ (problem : Problem) (options : Options) where
@@ -119,10 +120,6 @@ module _ (problem : Problem) (options : Options) where
       ]
 
 -- ---- what was searched
-
--- what is searched of a problem
-abbrev searched_of : Problem → Options → Searched
-searched_of problem options = record { problem = problem; class = options.class; start = options.start; kind = options.bound }
 
 -- the answer of a search over a space for it
 module _ (problem : Problem) (options : Options) (searched : Searched) (is : searched ≡ searched_of problem options) (works : List ℕ) (end : DeepEnd)

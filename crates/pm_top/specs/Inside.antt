@@ -2,3 +2,4 @@
 pub mod Stops
 pub mod Found
 pub mod Says
+pub mod Ends

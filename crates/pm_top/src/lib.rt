@@ -6,12 +6,12 @@ mod check;
 mod files;
 mod jobs;
 mod put;
-mod run;
 mod search;
 mod status;
+mod top;
 
-pub use run::{output_is_determined, run_alone};
 pub use status::Status;
+pub use top::{output_is_determined, run, run_alone};
 
 #[cfg(test)]
 mod tests;

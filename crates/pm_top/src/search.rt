@@ -1,11 +1,13 @@
 //! The search for a proof, and the answers for its ends.
 ghost use Rattle.std.specs.Prelude.{◌≡◌, ◌≤◌, IfOk};
 ghost use Rattle.pm_calculus.specs.Choices.{IsComplete, IsGeneral};
+ghost use Rattle.pm_deepen.specs.Answer.{IsAnswer};
+ghost use Rattle.pm_deepen.specs.Levels.{key_of};
 ghost use Rattle.pm_logic.specs.Problem.{IsValid};
 ghost use Rattle.pm_report.specs.Sample.{sample_problem};
 ghost use Rattle.pm_tab.specs.Searched.{level_of};
 ghost use Rattle.pm_top.specs.Output.{EndsSample, status_of};
-ghost use Rattle.pm_top.specs.Inside.Found.{IsFoundIn};
+ghost use Rattle.pm_top.specs.Inside.Found.{IsFoundIn, searched_of};
 ghost use Rattle.pm_top.specs.Inside.Says.{IsSearchAnswer};
 ghost use Rattle.pm_top.specs.Inside.Stops.{AreWithinLimits};
 
@@ -13,12 +15,15 @@ use crate::answer::Answer;
 use crate::status::Status;
 use pm_args::Options;
 use pm_cert::write_cert;
-use pm_deepen::{DeepEnd, Outcome, deepen_alone};
+use pm_deepen::{DeepEnd, Outcome, deepen, deepen_alone};
 use pm_logic::{Problem, Tableau};
+use pm_outside::Gate;
 use pm_report::{gave_up, resource_out, summary};
 use pm_space::{Maker, Space};
 use pm_tab::TabMaker;
 use std::alloc::{AllocError, Global};
+use std::sync::Wait;
+use std::thread::Threads;
 
 /// How a search ended, with the tableau of a proof.
 #[derive(Drop)]
@@ -46,6 +51,30 @@ fn general_tableau(
     space.tableau(alloc)
 }
 
+// How the search of a problem ended, with the tableau of a proof.
+fn with_tableau(
+    alloc: Global,
+    problem: &Problem,
+    options: &Options,
+    maker: &TabMaker<'_>,
+    outcome: Outcome,
+) -> Result<Found, AllocError>
+    requires depth { options.now.depth ≤ 250 }
+    requires searched { maker.now ≡ searched_of problem.now options.now }
+    requires answer { IsAnswer (λ level. key_of (level_of maker.now level))
+        options.now.depth options.now.budget outcome.works.items outcome.end }
+    ensures { IfOk result (IsFoundIn problem.now options.now) }
+{
+    let tableau = match &outcome.end {
+        DeepEnd::Proof { depth, path, .. } => {
+            let tableau = general_tableau(alloc, maker, *depth, path.as_slice())?;
+            Some(tableau)
+        }
+        _ => None,
+    };
+    Ok(Found { outcome, tableau })
+}
+
 /// Searches the tableaux of a problem, level by level, with one worker.
 pub(crate) fn search_alone(
     alloc: Global,
@@ -57,14 +86,32 @@ pub(crate) fn search_alone(
 {
     let maker = TabMaker::new(alloc, problem, options.class, options.start, options.bound)?;
     let outcome = deepen_alone(alloc, &&maker, options.depth, options.budget)?;
-    let tableau = match &outcome.end {
-        DeepEnd::Proof { depth, path, .. } => {
-            let tableau = general_tableau(alloc, &maker, *depth, path.as_slice())?;
-            Some(tableau)
-        }
-        _ => None,
-    };
-    Ok(Found { outcome, tableau })
+    with_tableau(alloc, problem, options, &maker, outcome)
+}
+
+/// Searches with as many workers as the options say, which pass a gate.
+pub(crate) fn search_shared<G: Gate + Sync, R: Threads + Wait + Sync>(
+    rt: &R,
+    alloc: Global,
+    problem: &Problem,
+    options: &Options,
+    gate: &G,
+) -> Result<Found, AllocError>
+    requires { AreWithinLimits options.now }
+    ensures { IfOk result (IsFoundIn problem.now options.now) }
+{
+    if options.workers == 1 {
+        return search_alone(alloc, problem, options);
+    }
+    let maker = TabMaker::new(alloc, problem, options.class, options.start, options.bound)?;
+    let Options {
+        workers,
+        depth,
+        budget,
+        ..
+    } = *options;
+    let outcome = deepen(rt, alloc, &&maker, gate, workers, depth, budget)?;
+    with_tableau(alloc, problem, options, &maker, outcome)
 }
 
 // The status of a search that ended so.

@@ -8,6 +8,7 @@ mod certificates;
 mod inputs;
 mod outside;
 mod searches;
+mod workers;
 
 // Two clauses without terms.
 const UNIT: &str = "cnf(a,axiom,p). cnf(b,negated_conjecture,~p).";

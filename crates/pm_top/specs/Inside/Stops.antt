@@ -71,7 +71,9 @@ pub record IsAnswered (job : Option Job) (told : Option Files) (longs : ℕ × �
   pub says : SaysOf job given answer.status answer.text.items
 
 abbrev pub AreWithinLimits : Options → Type 0
-AreWithinLimits options = (options.depth ≤ 250) × (options.budget ≤ 10 ^ 12)
+AreWithinLimits options =
+    (options.depth ≤ 250) × (options.budget ≤ 10 ^ 12)
+    × (1 ≤ options.workers) × (options.workers ≤ 64)
 
 -- what is read of words is within the limits of the calls below
 abbrev pub IsWithinLimits : Job → Type 0

@@ -5,16 +5,19 @@ ghost use Rattle.pm_outside.specs.Outside.{library_view};
 ghost use Rattle.pm_report.specs.Text.{text_of, bad_words_lines};
 ghost use Rattle.pm_top.specs.Output.{OutputIsDetermined};
 ghost use Rattle.pm_top.specs.Run.{IsRun, sink_view};
+ghost use Rattle.pm_top.specs.Inside.Ends.{EndsAs};
 ghost use Rattle.pm_top.specs.Inside.Stops.{IsAnswered, CountsStops, answered};
 
 use crate::answer::{Answer, Stop};
-use crate::jobs::do_job;
+use crate::jobs::{do_job, share_job};
 use crate::put::put_text;
 use crate::status::Status;
 use pm_args::{ArgsFault, read_job};
-use pm_outside::{Library, Sink};
+use pm_outside::{Gate, Library, Sink};
 use pm_report::bad_words;
 use std::alloc::Global;
+use std::sync::Wait;
+use std::thread::Threads;
 
 // The answer for words that are no job.
 fn refuse_words(alloc: Global) -> Result<Answer, Stop>
@@ -48,7 +51,72 @@ fn answer_words<L: Library>(
     }
 }
 
-/// Does the job that the words ask for, with one worker. It always returns.
+// What a run with several workers answers, unless there is a fault.
+fn answer_shared<L: Library, G: Gate + Sync, R: Threads + Wait + Sync>(
+    rt: &R,
+    alloc: Global,
+    words: &[String],
+    library: &mut L,
+    gate: &G,
+) -> Result<Answer, Stop>
+    ensures answer { IfSome (answered result) (IsAnswered (job_of (map string_bytes words.now))
+        (L.told library.old) (L.longs library.old, L.longs library.new)) }
+    ensures counts { let view = library_view L.faults L.misses L.longs L.told in
+        CountsStops (view library.old) (view library.new) (answered result)
+        (IsErrOf result Stop.ReadFault) }
+    ensures unasked { IsNone (job_of (map string_bytes words.now)) → library.new ≡ library.old }
+{
+    match read_job(alloc, words) {
+        Ok(job) => share_job(rt, alloc, &job, library, gate),
+        Err(ArgsFault::BadWords) => refuse_words(alloc),
+        Err(ArgsFault::Memory) => Err(Stop::NoMemory),
+    }
+}
+
+// Ends a run: puts the text of its answer, if it has one.
+fn finish<S: Sink>(sink: &mut S, outcome: Result<Answer, Stop>) -> Status
+    ensures { EndsAs outcome (sink_view S.faults S.written sink.old)
+        (sink_view S.faults S.written sink.new) result }
+{
+    let answer = match outcome {
+        Ok(answer) => answer,
+        Err(Stop::Answered(answer)) => answer,
+        Err(Stop::ReadFault) => return Status::ReadFault,
+        Err(Stop::NoMemory) => return Status::NoMemory,
+    };
+    match put_text(sink, &answer.text) {
+        Ok(()) => answer.status,
+        Err(_) => Status::WriteFault,
+    }
+}
+
+/// Does the job that the words ask for. Where it searches for a proof, as many workers as the option
+/// `workers` says share the search, and each passes the gate after each event of its own. It
+/// promises all that `run_alone` promises, so the number of workers changes neither the status nor
+/// the text. It may wait for its workers: nothing is claimed of its return.
+///
+/// Words, library, sink and status are as for `run_alone`.
+pub fn run<L: Library, S: Sink, G: Gate + Sync, R: Threads + Wait + Sync>(
+    rt: &R,
+    alloc: Global,
+    words: &[String],
+    library: &mut L,
+    sink: &mut S,
+    gate: &G,
+) -> Status
+    // As `run_alone`.
+    ensures unasked { IsNone (job_of (map string_bytes words.now)) → library.new ≡ library.old }
+    ensures run { IsRun (map string_bytes words.now)
+        (library_view L.faults L.misses L.longs L.told library.old)
+        (library_view L.faults L.misses L.longs L.told library.new)
+        (sink_view S.faults S.written sink.old) (sink_view S.faults S.written sink.new) result }
+{
+    let outcome = answer_shared(rt, alloc, words, library, gate);
+    finish(sink, outcome)
+}
+
+/// Does the job that the words ask for, with one worker, whatever the option `workers` says. It
+/// waits for nobody and always returns.
 ///
 /// `words` are those after the program's name; the jobs and their options are in the README. The
 /// library gives the files, and the sink gets the text. Each file is read before the next one is
@@ -73,16 +141,8 @@ pub fn run_alone<L: Library, S: Sink>(
         (library_view L.faults L.misses L.longs L.told library.new)
         (sink_view S.faults S.written sink.old) (sink_view S.faults S.written sink.new) result }
 {
-    let answer = match answer_words(alloc, words, library) {
-        Ok(answer) => answer,
-        Err(Stop::Answered(answer)) => answer,
-        Err(Stop::ReadFault) => return Status::ReadFault,
-        Err(Stop::NoMemory) => return Status::NoMemory,
-    };
-    match put_text(sink, &answer.text) {
-        Ok(()) => answer.status,
-        Err(_) => Status::WriteFault,
-    }
+    let outcome = answer_words(alloc, words, library);
+    finish(sink, outcome)
 }
 
 /// The words and the files determine the status and the text of a run's output.

@@ -1,12 +1,14 @@
-use Rattle.std.proofs.Common.{ℕ, map, string_bytes}
+use Rattle.std.proofs.Common.{rules, ℕ, map, string_bytes}
 use Rattle.pm_args.specs.Jobs.{job_of}
 use Rattle.pm_args.specs.JobViews.{job_view}
 use Rattle.pm_top.proofs.Answered.{refused_answered}
 use Rattle.pm_top.proofs.Limits.{job_within}
-use Rattle.pm_top.proofs.run.answer_words.Goals as goal
+use Rattle.pm_top.proofs.top.answer_shared.Goals as goal
 
-pub do_job-requires : goal.do_job-requires
-do_job-requires g c = job_within (map string_bytes c.args.words.now) (job_view c.in-Ok.job) c.in-Ok.ensures
+pub share_job-requires-clause-limits : goal.share_job-requires-clause-limits
+share_job-requires-clause-limits g c =
+    let within = job_within (map string_bytes c.args.words.now) (job_view c.in-Ok.job) c.in-Ok.ensures in
+    search rules
 
 pub returns-in-Err-BadWords-clause-answer : goal.returns-in-Err-BadWords-clause-answer
 returns-in-Err-BadWords-clause-answer g c =
