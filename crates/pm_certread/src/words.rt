@@ -66,24 +66,14 @@ fn first_length(line: &[u8]) -> usize
     line.len()
 }
 
-// How many words a line has, for the room that they take.
-fn count_words(line: &[u8]) -> usize {
-    let mut place = Place::Outside;
-    let mut count = 1;
-    for byte in line {
-        if parts(place, *byte) {
-            count += 1;
-        }
-        place = next_place(place, *byte);
-    }
-    count
-}
+// How many words most lines have at most, which is the room that a line's words get at first.
+const WORDS: usize = 8;
 
 // The words of a line.
 fn words_of<'a>(alloc: Global, line: &'a [u8]) -> Result<Vec<&'a [u8]>, AllocError>
     ensures { IfOk result (λ words. bytes_of words.items ≡ words_of line.now) }
 {
-    let mut words = Vec::with_capacity(alloc, count_words(line))?;
+    let mut words = Vec::with_capacity(alloc, WORDS)?;
     let mut rest = line;
     let mut end = first_length(rest);
     'words: while end < rest.len() {
@@ -167,7 +157,7 @@ pub fn numbers(alloc: Global, words: &[&[u8]]) -> Result<Option<Vec<u64>>, Alloc
 fn unescaped(alloc: Global, word: &[u8]) -> Result<Vec<u8>, AllocError>
     ensures { IfOk result (λ text. text.items ≡ unescaped false word.now) }
 {
-    let mut text = Vec::new(alloc);
+    let mut text = Vec::with_capacity(alloc, word.len())?;
     let mut behind = false;
     for byte in word {
         if behind || (*byte != b'\'' && *byte != b'\\') {

@@ -3,3 +3,4 @@ pub mod GatheredOnce
 pub mod Nodes
 pub mod ValidItems
 pub mod Determined
+pub mod ReadValid

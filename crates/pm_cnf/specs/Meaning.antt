@@ -1,5 +1,5 @@
 -- The problem of the items of a file.
-use Rattle.std.specs.Prelude.{◌≡◌, ℕ, suc, ◌⊎◌, Bool, false, not, List, [], ◌∷◌, ◌++◌, filter, length, Some, slice_get}
+use Rattle.std.specs.Prelude.{◌≡◌, ℕ, suc, Bool, false, not, List, [], ◌∷◌, ◌++◌, filter, length, Some, slice_get}
 use Rattle.std.specs.List.{list_any, flat_map}
 use Rattle.pm_logic.specs.declared.symbols.Kind.TheVariants.{Predicate, Function}
 use Rattle.pm_logic.specs.Lists.{Gathers}

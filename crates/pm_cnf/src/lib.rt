@@ -11,7 +11,10 @@ mod parser;
 mod reading;
 
 pub use error::CnfError;
-pub use laws::{offence_is_determined, problem_is_determined, written_clauses_read_back};
+pub use laws::{
+    offence_is_determined, problem_is_determined, read_problems_are_valid,
+    written_clauses_read_back,
+};
 pub use limits::Limits;
 pub use pm_scan::{CnfKind, Place};
 pub use pm_write::write;

@@ -147,6 +147,11 @@ least_list level t proof within =
       ),
     )
 
+-- so there is one
+pub has_least_list : (level : Level) (t : Tableau) → IsProof level.problem level.start t → IsWithinBound level.kind level.bound t
+    → (choices : List ℕ) × IsLeastList level t choices
+has_least_list level t proof within = (least_choices level.problem.clauses level.start t, least_list level t proof within)
+
 -- so at each level with room
 pub least_at_each : (problem : Problem) (rule : Start) (t : Tableau) → IsProof problem rule t → IsLeastAtEach problem rule t (least_choices problem.clauses rule t)
 least_at_each problem rule t proof level room =

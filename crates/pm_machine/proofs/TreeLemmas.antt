@@ -1,7 +1,8 @@
 -- Lists with a part taken out or put in.
 use Rattle.std.proofs.Common.{◌≡◌, ℕ, zero, suc, ◌+◌, ◌-◌, ◌≤◌, ◌<◌, List, [], ◌∷◌, ◌++◌, length, map, Some, None, slice_get, slice_index_or, take, drop, set, refl, sym, ◌∙◌, ap, arith, subst, ◌⊎◌, inl, inr, ap₂, false, reverse}
 use Rattle.std.specs.Option.{option_map_or}
-use Rattle.std.proofs.lemmas.List.{drop-map, map-append, length-map, length-append, take-map, reverse-append}
+use borrow.Rule.Slice.PartMut.{post_of}
+use Rattle.std.proofs.lemmas.List.{append-nil, drop_all, drop-map, length-drop, length-take-le, map-append, length-map, length-append, take-map, reverse-append}
 use Rattle.pm_machine.specs.declared.node.MachineNode.{MachineNode}
 use Rattle.pm_machine.specs.State.{CellNode, IsOpen, child_at}
 use Rattle.pm_machine.specs.Node.{node_of}
@@ -9,9 +10,7 @@ use Rattle.pm_machine.specs.declared.tree.Taken.{Taken}
 use Rattle.pm_machine.specs.declared.tree.Step.{Step}
 use Rattle.pm_machine.specs.declared.tree.Step.TheVariants.{Extend, Reduce}
 use Rattle.pm_run.specs.State.{Child}
-use Rattle.pm_run.specs.declared.children.NewChild.{NewChild}
-use Rattle.pm_run.specs.Runner.{child_of}
-use Rattle.pm_machine.specs.Inside.Frames.{TreeValue, CanReopen, is_start, InsertsChildren, children_at, IsPassed, IsNext, reopened, reopened_nodes, depth_at}
+use Rattle.pm_machine.specs.Inside.Frames.{TreeValue, CanReopen, is_start, children_at, IsPassed, IsNext, reopened, reopened_nodes, depth_at}
 
 module _ {A B : Type 0} (f : A → B) where
   -- an item is set, and those after it up to a place are taken out
@@ -175,41 +174,71 @@ module _ {A : Type 0} where
   within_slice (y ∷ xs) zero x is = omega arith
   within_slice (y ∷ xs) (suc i) x is = let before = within_slice xs i x is in omega (arith, before)
 
-  pub length_inserted : (at : ℕ) (xs : List A) (x : A) → length (take at xs ++ x ∷ drop at xs) ≡ suc (length xs)
-  length_inserted zero xs x = refl
-  length_inserted (suc at) [] x = refl
-  length_inserted (suc at) (y ∷ xs) x = ap suc (length_inserted at xs x)
+  -- what comes first, and what comes then, where two lists are one
+  take_first : (xs ys : List A) → take (length xs) (xs ++ ys) ≡ xs
+  take_first [] ys = refl
+  take_first (x ∷ xs) ys = ap (λ zs. x ∷ zs) (take_first xs ys)
 
-append_assoc_back : {A : Type 0} (xs : List A) (x : A) (ys : List A) → (xs ++ x ∷ []) ++ ys ≡ xs ++ x ∷ ys
-append_assoc_back [] x ys = refl
-append_assoc_back (y ∷ xs) x ys = ap (λ zs. y ∷ zs) (append_assoc_back xs x ys)
+  drop_first : (xs ys : List A) → drop (length xs) (xs ++ ys) ≡ ys
+  drop_first [] ys = refl
+  drop_first (x ∷ xs) ys = drop_first xs ys
 
--- one more child is placed, the last that was left
-pub places_one : (at depth capacity more : ℕ) (old now new : List MachineNode) (children left fewer : List NewChild)
-    (child : NewChild) (node : MachineNode) → InsertsChildren at depth old children now left capacity
-    → left ≡ fewer ++ child ∷ [] → node_of node ≡ child_at depth (child_of child)
-    → new ≡ take at now ++ node ∷ drop at now → at ≤ length old → capacity ≤ more
-    → InsertsChildren at depth old children new fewer more
-places_one at depth capacity more old now new children left fewer child node inserts popped made is within grows =
+  -- the items from a place on, those after the first so many brought to the place
+  abbrev pub turned : ℕ → ℕ → List A → List A
+  turned at count xs = take at xs ++ (drop count (drop at xs) ++ take count (drop at xs))
+
+  -- a list that comes behind another is brought to a place in it
+  turned_behind : (xs ys : List A) (at count : ℕ) → at ≤ length xs → count + length ys ≡ length (drop at (xs ++ ys))
+      → turned at count (xs ++ ys) ≡ take at xs ++ (ys ++ drop at xs)
+  turned_behind xs ys zero count within is =
+      let first : count ≡ length xs = omega (arith, is, length-append xs ys) in
+      ap (λ n. drop n (xs ++ ys) ++ take n (xs ++ ys)) first
+      ∙ ap₂ (λ zs vs. zs ++ vs) (drop_first xs ys) (take_first xs ys)
+  turned_behind [] ys (suc at) count within is = absurd (omega (arith, within))
+  turned_behind (x ∷ xs) ys (suc at) count within is = ap (λ zs. x ∷ zs) (turned_behind xs ys at count (omega (arith, within)) is)
+
+  -- what is written back where the items from a place on were changed
+  pub written_back : (len at : ℕ) (items shown changed : List A) → shown ≡ items → len ≡ length items → at ≤ length items
+      → length changed + at ≡ length items
+      → take len (take at shown ++ (changed ++ post_of at (length shown - at) shown)
+      ++ drop (length (take at shown ++ (changed ++ post_of at (length shown - at) shown))) items)
+      ≡ take at items ++ changed
+  written_back len at items shown changed same whole within long =
+      let none : post_of at (length items - at) items ≡ [] =
+      drop_all (length items - at) (drop at items) (omega (arith, length-drop at items)) in
+      let new = take at items ++ (changed ++ []) in
+      let is : new ≡ take at items ++ changed = ap (λ xs. take at items ++ xs) (append-nil changed) in
+      let all : len ≡ length new =
+      omega (arith, whole, long, ap length is, length-append (take at items) changed, length-take-le at items within) in
+      ap (λ xs. take len (take at xs ++ (changed ++ post_of at (length xs - at) xs)
+      ++ drop (length (take at xs ++ (changed ++ post_of at (length xs - at) xs))) items)) same
+      ∙ ap (λ xs. take len (take at items ++ (changed ++ xs) ++ drop (length (take at items ++ (changed ++ xs))) items)) none
+      ∙ ap (λ n. take n (new ++ drop (length new) items)) all ∙ take_first new (drop (length new) items) ∙ is
+
+-- the images of a list that is turned
+map_turned : {A B : Type 0} (f : A → B) (xs : List A) (at count : ℕ) → map f (turned at count xs) ≡ turned at count (map f xs)
+map_turned f xs at count =
+    map-append f (take at xs) (drop count (drop at xs) ++ take count (drop at xs))
+    ∙ ap₂ (λ ys zs. ys ++ zs) (sym (take-map f at xs))
+    (map-append f (drop count (drop at xs)) (take count (drop at xs))
+    ∙ ap₂ (λ ys zs. ys ++ zs) (sym (drop-map f count (drop at xs))) (sym (take-map f count (drop at xs)))
+    ∙ ap (λ ys. drop count ys ++ take count ys) (sym (drop-map f at xs)))
+
+-- the children that were put behind the nodes stand in their place
+pub brings_children : (at depth count : ℕ) (old now : List MachineNode) (kids : List Child)
+    → map node_of now ≡ map node_of old ++ children_at depth kids → at ≤ length old → count + length kids + at ≡ length now
+    → map node_of (turned at count now) ≡ take at (map node_of old) ++ (children_at depth kids ++ drop at (map node_of old))
+brings_children at depth count old now kids is within long =
     let olds = map node_of old in
-    let placed = children_at depth (map child_of inserts.placed) in
+    let new = children_at depth kids in
     let fits : at ≤ length olds = let same = length-map old node_of in omega (arith, within, same) in
-    let long : length new ≡ suc (length now) = ap length is ∙ length_inserted at now node in
-    let fewer_is : length left ≡ length fewer + 1 = ap length popped ∙ length-append fewer (child ∷ []) in
-    let had = inserts.within in
-    let room = inserts.room in
-    record {
-      placed = child ∷ inserts.placed;
-      whole = inserts.whole ∙ ap (λ cs. cs ++ inserts.placed) popped ∙ append_assoc_back fewer child inserts.placed;
-      nodes =
-          ap (map node_of) is ∙ map-append node_of (take at now) (node ∷ drop at now)
-          ∙ ap₂ (λ xs ys. xs ++ node_of node ∷ ys) (sym (take-map node_of at now)) (sym (drop-map node_of at now))
-          ∙ ap (λ ns. take at ns ++ node_of node ∷ drop at ns) inserts.nodes
-          ∙ ap₂ (λ xs ys. xs ++ node_of node ∷ ys) (take_cut at olds (placed ++ drop at olds) fits) (drop_cut at olds (placed ++ drop at olds) fits)
-          ∙ ap (λ n. take at olds ++ n ∷ (placed ++ drop at olds)) made;
-      within = omega (arith, long, had);
-      room = omega (arith, long, fewer_is, room, grows);
-    }
+    let behind : count + length new ≡ length (drop at (olds ++ new)) =
+    let all = ap length is in let images = length-map now node_of in let made = length-map kids (child_at depth) in
+    omega (arith, long, all, images, made, length-drop at (olds ++ new)) in
+    map_turned node_of now at count ∙ ap (turned at count) is ∙ turned_behind olds new at count fits behind
+
+pub reverse_push : {A : Type 0} (xs : List A) (x : A) → reverse (xs ++ x ∷ []) ≡ x ∷ reverse xs
+reverse_push xs x = reverse-append xs (x ∷ [])
 
 -- the node in a place is changed
 pub changes_node : (items : List MachineNode) (leaf at : ℕ) (nodes : List CellNode) (node : CellNode) (seen new : MachineNode)
@@ -264,9 +293,6 @@ reopens_same leaf count old new nodes branch can = record {
 pub no_start : (step : Step) → ((x : ℕ) × (y : ℕ) × (step ≡ Extend x y)) ⊎ ((x : ℕ) × (step ≡ Reduce x)) → is_start step ≡ false
 no_start step (inl extends) = ap is_start extends.2
 no_start step (inr reduces) = ap is_start reduces.1
-
-pub reverse_push : {A : Type 0} (xs : List A) (x : A) → reverse (xs ++ x ∷ []) ≡ x ∷ reverse xs
-reverse_push xs x = reverse-append xs (x ∷ [])
 
 -- a step is noted after those before
 pub notes_last : (old new : List Taken) (t u : Taken) (seen : List Taken) → new ≡ old ++ t ∷ [] → reverse old ≡ seen → t ≡ u

@@ -278,10 +278,14 @@ fn insert_children(
     ensures children { OnOk result (children.new.items ≡ []) }
     ensures err { OnErr result (nodes.new.items ≡ nodes.old.items) }
 {
-    nodes.reserve(children.len())?;
+    let count = children.len();
+    nodes.reserve(count)?;
+    // They are put at the end, and then brought to their place at once.
+    children.reverse();
     'children: while let Some(child) = children.pop() {
-        nodes.insert(at, new_node(depth, child))?;
+        nodes.push_reserved(new_node(depth, child));
     }
+    nodes[at..].rotate_right(count);
     Ok(())
 }
 

@@ -10,7 +10,6 @@ use std::test::Fail;
 use std::thread::Threads;
 
 mod failing;
-mod gates;
 
 #[test]
 fn ends(rt: HostRuntime) -> Result<(), Fail> {

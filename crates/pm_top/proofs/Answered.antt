@@ -71,7 +71,7 @@ stop_output (code name) file given status text named stop = stop_over given.clau
 stop_output (clauses name) file given status text named stop = stop_over given.clauses (IsDoneWith problem_text) status text stop
 stop_output (sample n options) file given status text named stop = absurd cc
 
-not_done : (held : Held) (status : Status) (text : List ℕ) → StopsSo held status text → status ≡ ends.Done → ⊥
+pub not_done : (held : Held) (status : Status) (text : List ℕ) → StopsSo held status text → status ≡ ends.Done → ⊥
 not_done missing status text (inl unread) is = (let other = unread.0 in cc)
 not_done over_limit status text (inl unread) is = (let other = unread.0 in cc)
 not_done (these_bytes bytes) status text (inl unread) is = unread

@@ -11,3 +11,5 @@ pub mod Gained
 pub mod Ran
 pub mod Fetched
 pub mod Checks
+pub mod FirstLists
+pub mod Accepted

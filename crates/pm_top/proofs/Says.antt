@@ -29,10 +29,10 @@ use Rattle.pm_top.proofs.Lines.{said_work, gave_up_says, gave_up_no_status, reso
 
 module _ (problem : Problem) (options : Options) (limits : AreWithinLimits options) (works : List ℕ) (end : DeepEnd) (tableau : Option Tableau)
     (answer : IsAnswerOf problem (searched_with options) works end tableau) where
-  few : length works < 2 ^ 64
+  pub few : length works < 2 ^ 64
   few = omega (arith, answer.search.few, limits.0)
 
-  small : All (λ w. w < 2 ^ 64) works
+  pub small : All (λ w. w < 2 ^ 64) works
   small = λ k d lt. (let within = answer.search.exhausted.within k lt in let same = get_or_default_zero works k d lt in omega (arith, within, same, limits.1))
 
   -- a level that is among the works is exhausted

@@ -58,7 +58,7 @@ module _ (problem : Problem) (options : Options) where
   }
 
   -- the tableau of a proof is as large as its level
-  own_size : (works : List ℕ) (level : ℕ) (t : Tableau) → AreExhausted (λ bound. key_of (level_of bound)) options.budget works → level ≡ length works
+  pub own_size : (works : List ℕ) (level : ℕ) (t : Tableau) → AreExhausted (λ bound. key_of (level_of bound)) options.budget works → level ≡ length works
       → IsInClass (level_of level) t → size options.bound t ≡ level
   own_size works level t exhausted is member =
       elim (cases_lt (size options.bound t) level) [

@@ -11,7 +11,7 @@ mod status;
 mod top;
 
 pub use status::Status;
-pub use top::{output_is_determined, run, run_alone};
+pub use top::{output_is_determined, proofs_are_accepted, run, run_alone};
 
 #[cfg(test)]
 mod tests;

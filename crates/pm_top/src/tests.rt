@@ -17,6 +17,23 @@ const UNIT: &str = "cnf(a,axiom,p). cnf(b,negated_conjecture,~p).";
 const CHAIN: &str = "cnf(a,axiom,p(a)). cnf(b,axiom,~p(X) | p(f(X))).
 cnf(c,negated_conjecture,~p(f(f(a)))).";
 
+// The choices 0 0 2 0 put `a` for X, which repeats `~p(a)` on a branch that is closed already.
+const LATE_REPEAT: &str = "cnf(0,axiom,p(Y) | ~p(Z)). cnf(1,axiom,p(a)).
+cnf(2,axiom,~p(X) | ~t(X)). cnf(3,axiom,t(a) | ~u). cnf(4,axiom,u).";
+
+// The certificate of its proof in the class `regular`.
+const LATE_REPEAT_PROOF: &str = "parmel 1 class regular start negative depth 3 terms 1 nodes 6
+a
+root 2
+1 - p 0 extend 1
+2 + p 0 close 1
+1 - t 0 extend 3
+2 + t 0 close 1
+2 - u extend 4
+3 + u close 2
+end
+";
+
 // A file with comments, annotations, quoted names and names that are numbers.
 const FAMILY: &str = "%------------------------------------------------------------------------
 % File     : family.p
@@ -39,6 +56,25 @@ cnf(grandfather,axiom,
     ( ~ grandparent(X,Y) | ~ male(X) | grandfather(X,Y) )).
 cnf(apart,axiom,( ~ male(X) | ~ female(X) )).
 cnf(goal,negated_conjecture,( ~ grandmother(ann,carl) )).
+";
+
+// The certificate of its proof.
+const FAMILY_PROOF: &str = "parmel 1 class plain start negative depth 4 terms 3 nodes 10
+ann
+carl
+bob
+root 11
+1 - grandmother 0 1 extend 8
+2 - grandparent 0 1 extend 7
+3 - parent 0 2 extend 0
+4 + parent 0 2 close 3
+3 - parent 2 1 extend 1
+4 + parent 2 1 close 3
+3 + grandparent 0 1 close 2
+2 - female 0 extend 3
+3 + female 0 close 2
+2 + grandmother 0 1 close 1
+end
 ";
 
 // The words of a run, which stand in this text with blanks between them.

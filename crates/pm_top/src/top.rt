@@ -3,6 +3,7 @@ ghost use Rattle.std.specs.Prelude.{◌≡◌, IfOk, IfErr, IfSome, IsNone, IsEr
 ghost use Rattle.pm_args.specs.Jobs.{job_of};
 ghost use Rattle.pm_outside.specs.Outside.{library_view};
 ghost use Rattle.pm_report.specs.Text.{text_of, bad_words_lines};
+ghost use Rattle.pm_top.specs.Accepted.{ProofsAreAccepted};
 ghost use Rattle.pm_top.specs.Output.{OutputIsDetermined};
 ghost use Rattle.pm_top.specs.Run.{IsRun, sink_view};
 ghost use Rattle.pm_top.specs.Inside.Ends.{EndsAs};
@@ -148,4 +149,11 @@ pub fn run_alone<L: Library, S: Sink>(
 /// The words and the files determine the status and the text of a run's output.
 pub fn output_is_determined()
     ensures { OutputIsDetermined }
+{}
+
+/// What `prove` prints as a proof is accepted: `check` over the same clause file, with that text as
+/// the certificate, tells the level of the proof as the size of its tableau, and the list that the
+/// search found as its choices.
+pub fn proofs_are_accepted()
+    ensures { ProofsAreAccepted }
 {}

@@ -1,10 +1,13 @@
 //! How a worker gets its rows, and what it tells of them.
 #![tactic(auto)]
 
-ghost use Rattle.std.specs.Prelude.{◌≡◌, IfOk, OnErr, MatchBool};
+ghost use Rattle.std.specs.Prelude.{◌≡◌, ◌↔◌, ◌<◌, false, IfOk, IsTrue, OnErr, MatchBool};
+ghost use Rattle.std.specs.List.{count_by};
 ghost use Rattle.std.specs.Option.{unwrap_or};
 ghost use Rattle.pm_choice.specs.declared.Bound.TheVariants.{At};
 ghost use Rattle.pm_choice.specs.Order.{IsWithin};
+ghost use Rattle.pm_book.specs.Rows.{is_above, is_queued, spent};
+ghost use Rattle.pm_book.specs.Answers.{Knows};
 
 use pm_book::{Book, Ended, SplitReply, Taken, Ticket};
 use pm_choice::Choices;
@@ -98,7 +101,13 @@ impl Desk for Owner<'_> {
 }
 
 /// What a worker sees of a book, with so many workers.
-pub fn look_at(book: &Book, ticket: &Ticket, workers: u16) -> Look {
+pub fn look_at(book: &Book, ticket: &Ticket, workers: u16) -> Look
+    ensures wanted { IsTrue result.wanted
+        ↔ (Knows book.now ticket.now × (is_above book.now.best ticket.now.from ≡ false)) }
+    ensures spent { result.spent ≡ spent book.now }
+    ensures hungry { IsTrue result.hungry
+        ↔ (count_by (λ row. is_queued row.state) book.now.rows < workers) }
+{
     Look {
         wanted: book.wanted(ticket),
         spent: book.spent(),

@@ -49,8 +49,16 @@ fn rows_are_split_where_rows_are_wanted(rt: HostRuntime) -> Result<(), Fail> {
     let maker = ToyMaker::new(6, 7, 300_000);
     let (pieces, reading) = leaves(rt.alloc(), &maker, 4, 1_000_000)?;
     assert!(rt; pieces > 1 && is_settled(reading, 335_922, false));
-    let (pieces, reading) = leaves(rt.alloc(), &maker, 0, 1_000_000)?;
+    let (pieces, reading) = leaves(rt.alloc(), &maker, 0, 1_000_000_000)?;
     assert!(rt; pieces == 1 && is_settled(reading, 335_922, false));
+    Ok(())
+}
+
+#[test]
+fn a_long_row_is_given_back(rt: HostRuntime) -> Result<(), Fail> {
+    let maker = ToyMaker::new(6, 7, 300_000);
+    let (pieces, reading) = leaves(rt.alloc(), &maker, 0, 1_000_000)?;
+    assert!(rt; pieces == 2 && is_settled(reading, 335_922, false));
     Ok(())
 }
 

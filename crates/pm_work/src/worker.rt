@@ -18,6 +18,12 @@ use std::alloc::{AllocError, Global};
 // The attempts that a worker makes between two looks at the book.
 const SLICE: u64 = 4_096;
 
+// The attempts after which a worker gives its row back and takes another, where they are also a
+// thousandth of the budget: so what the book has as spent doesn't stay far behind what was worked.
+const LONG: u64 = 262_144;
+
+const PARTS: u64 = 1_000;
+
 // What a worker does after a slice.
 enum Next {
     // It searches its row on.
@@ -34,6 +40,11 @@ fn exceeds(look: &Look, done: u64, budget: u64) -> bool
 {
     let budget = u128::from(budget);
     look.spent > budget || u128::from(done) > budget - look.spent
+}
+
+// Whether so many attempts in one row are enough for now.
+fn is_long(done: u64, budget: u64) -> bool {
+    done >= LONG && done >= budget / PARTS
 }
 
 // Splits a task's row where the rest of its interval may be cut off.
@@ -79,6 +90,9 @@ fn after_slice<S: Space, D: Desk>(desk: &mut D, task: &mut Task<S>, budget: u64)
     }
     if exceeds(&look, task.done, budget) {
         return Next::End;
+    }
+    if is_long(task.done, budget) {
+        return Next::TakeAnother;
     }
     if look.hungry && share(desk, task).is_err() {
         return Next::End;

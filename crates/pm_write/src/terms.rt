@@ -1,5 +1,5 @@
 //! Writing terms as they stand in a clause file.
-ghost use Rattle.std.specs.Prelude.{◌≡◌, ◌≤◌, ◌++◌, List, All, IfOk, OnOk, length, map};
+ghost use Rattle.std.specs.Prelude.{◌≡◌, ◌≤◌, ◌++◌, List, All, IfOk, OnErr, OnOk, length, map};
 ghost use Rattle.pm_logic.specs.Term.{Term, as_terms, tree_at};
 ghost use Rattle.pm_logic.specs.Problem.{Symbol};
 ghost use Rattle.pm_write.specs.Rows.{IsTerm};
@@ -12,7 +12,7 @@ use std::alloc::{AllocError, Global};
 
 /// Appends the term of a row of the problem's table as it is written in a clause file: a variable
 /// as `X` and its number, and an application as its symbol with the arguments between `(` and `)`,
-/// joined by `,`. The error is want of memory; then `into` may have got a part of the text.
+/// joined by `,`. The error is want of memory; then `into` is as before.
 pub fn write_term(
     alloc: Global,
     into: &mut Vec<u8>,
@@ -20,11 +20,14 @@ pub fn write_term(
     term: TermId,
 ) -> Result<(), AllocError>
     requires { IsTerm problem.now.symbols problem.now.terms term }
-    ensures { OnOk result (into.new.items ≡ into.old.items
+    ensures ok { OnOk result (into.new.items ≡ into.old.items
         ++ term_text problem.now.symbols (tree_at problem.now.terms term)) }
+    ensures err { OnErr result (into.new.items ≡ into.old.items) }
 {
-    let args = write_head(into, problem, term)?;
-    write_arguments(alloc, into, problem, args)
+    let mut text = Vec::new(alloc);
+    let args = write_head(&mut text, problem, term)?;
+    write_arguments(alloc, &mut text, problem, args)?;
+    into.extend_from_slice(&text)
 }
 
 // What is to be written of a list of arguments that is open.

@@ -1,5 +1,5 @@
 -- What a file's items are like, once they were read.
-use Rattle.std.specs.Prelude.{◌≡◌, ℕ, ◌-◌, ◌^◌, ◌<◌, ◌≤◌, List, [], map, length, All}
+use Rattle.std.specs.Prelude.{◌≡◌, ℕ, ◌-◌, ◌^◌, ◌<◌, ◌≤◌, List, map, length, All}
 use Rattle.std.specs.List.{flat_map}
 use Rattle.pm_logic.specs.Problem.{IsPrintable}
 use Rattle.pm_cnf.specs.declared.limits.Limits.{Limits}

@@ -1,5 +1,5 @@
 -- The nodes as they are kept, what each step makes of them, and what undoes it.
-use Rattle.std.specs.Prelude.{◌≡◌, ℕ, suc, ◌+◌, ◌-◌, ◌<◌, ◌≤◌, Bool, true, false, if◌then◌else◌, List, [], ◌∷◌, ◌++◌, Some, None, length, map, slice_get, slice_index_or, take, drop, set, replicate}
+use Rattle.std.specs.Prelude.{◌≡◌, ℕ, suc, ◌+◌, ◌-◌, ◌<◌, ◌≤◌, Bool, true, false, if◌then◌else◌, List, [], ◌∷◌, ◌++◌, Some, None, length, map, slice_get, slice_index_or, take, drop, set, replicate, reverse}
 use Rattle.std.specs.Option.{option_map_or}
 use Rattle.pm_store.specs.Marks.{Counts}
 use Rattle.pm_run.specs.State.{Child}
@@ -177,14 +177,11 @@ abbrev pub Undoes : List Taken → TreeValue → TreeValue → Counts → Type 0
 Undoes [] old new mark = ⊥
 Undoes (t ∷ earlier) old new mark = (new ≡ tree_before t earlier old) × (mark ≡ t.mark)
 
--- the last children stand in a place among the nodes, and there is room for the others
-pub record InsertsChildren (at depth : ℕ) (old : List MachineNode) (children : List NewChild)
+-- The first children stand after the nodes, and there is room for the others, the first of which
+-- is left last.
+pub record AddsChildren (depth : ℕ) (old : List MachineNode) (children : List NewChild)
     (now : List MachineNode) (left : List NewChild) (capacity : ℕ) : Type 0 where
   pub placed : List NewChild
-  pub whole : children ≡ left ++ placed
-  pub nodes :
-      map node_of now
-      ≡ take at (map node_of old)
-      ++ (children_at depth (map child_of placed) ++ drop at (map node_of old))
-  pub within : at ≤ length now
+  pub whole : children ≡ placed ++ reverse left
+  pub nodes : map node_of now ≡ map node_of old ++ children_at depth (map child_of placed)
   pub room : length now + length left ≤ capacity

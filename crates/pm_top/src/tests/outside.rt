@@ -326,3 +326,69 @@ fn long_files_and_want_of_memory(rt: HostRuntime) -> Result<(), Fail> {
     }
     Ok(())
 }
+
+// Each job writes its whole text, or nothing where memory is short: it is so too where
+// `rt try --test --fail-alloc N` has an allocation of this test fail.
+#[test]
+fn whole_texts_or_want_of_memory(rt: HostRuntime) -> Result<(), Fail> {
+    let alloc = rt.alloc();
+    for (job, want, text) in [
+        ("prove e.p", Status::Done, UNIT_PROOF),
+        (
+            "check e.p e.cert",
+            Status::Done,
+            "certificate accepted depth 2\nchoices 0 0\n",
+        ),
+        (
+            "clauses e.p",
+            Status::Done,
+            "cnf(a,axiom,(p)).\ncnf(b,negated_conjecture,(~p)).\n",
+        ),
+        (
+            "code e.p",
+            Status::Done,
+            "body 0
+GOAL + p 0
+RETURN
+start 0
+NEW
+BODY 0
+DONE
+extend 0 0
+NEW
+BODY 0
+CLOSE 0
+DONE
+body 1
+GOAL - p 0
+RETURN
+start 1
+NEW
+BODY 1
+DONE
+extend 1 0
+NEW
+BODY 1
+CLOSE 0
+DONE
+",
+        ),
+        (
+            "sample 1 --depth 1",
+            Status::DepthReached,
+            "sample 1 clauses 1003\ndepth reached attempts 2\n",
+        ),
+    ] {
+        let mut library = files(alloc)?;
+        let mut sink = MemorySink::with_room(alloc, 4_096)?;
+        let words = words(alloc, job)?;
+        let status = run_alone(alloc, &words, &mut library, &mut sink);
+        if status == Status::NoMemory {
+            assert_eq!(rt; sink.bytes(), b"".as_slice(), "at {job:?}");
+        } else {
+            assert_eq!(rt; status, want, "at {job:?}");
+            assert_eq!(rt; sink.bytes(), text.as_bytes(), "at {job:?}");
+        }
+    }
+    Ok(())
+}

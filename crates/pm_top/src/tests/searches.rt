@@ -1,5 +1,5 @@
 //! Searches: their levels, and the proofs that they write.
-use super::{CHAIN, FAMILY, UNIT, level_lines, run};
+use super::{CHAIN, FAMILY, FAMILY_PROOF, LATE_REPEAT, LATE_REPEAT_PROOF, UNIT, level_lines, run};
 use crate::Status;
 use std::alloc::{AllocError, Global};
 use std::process::Abort;
@@ -14,11 +14,7 @@ const TAUTOLOGY: &str = "cnf(t,axiom,p(X) | ~p(X)). cnf(a,axiom,p(a)). cnf(b,axi
 
 const PAIRS: &str = "cnf(a,axiom,p(X) | p(Y)). cnf(b,axiom,~p(U) | ~p(V)).";
 
-// The choices 0 0 2 0 put `a` for X, which repeats `~p(a)` on a branch that is closed already.
-const LATE_REPEAT: &str = "cnf(0,axiom,p(Y) | ~p(Z)). cnf(1,axiom,p(a)).
-cnf(2,axiom,~p(X) | ~t(X)). cnf(3,axiom,t(a) | ~u). cnf(4,axiom,u).";
-
-// The same with X left free: its branch has ~p(X) and ~p(a).
+// As LATE_REPEAT, with X left free: its branch has ~p(X) and ~p(a).
 const NO_REPEAT: &str = "cnf(0,axiom,p(Y) | ~p(Z)). cnf(1,axiom,p(a)).
 cnf(2,axiom,~p(X) | ~t). cnf(3,axiom,t | ~u). cnf(4,axiom,u).";
 
@@ -297,23 +293,7 @@ end
             clauses: FAMILY,
             exhausted: &[2, 2, 10, 13],
             attempts: 20,
-            document: "parmel 1 class plain start negative depth 4 terms 3 nodes 10
-ann
-carl
-bob
-root 11
-1 - grandmother 0 1 extend 8
-2 - grandparent 0 1 extend 7
-3 - parent 0 2 extend 0
-4 + parent 0 2 close 3
-3 - parent 2 1 extend 1
-4 + parent 2 1 close 3
-3 + grandparent 0 1 close 2
-2 - female 0 extend 3
-3 + female 0 close 2
-2 + grandmother 0 1 close 1
-end
-",
+            document: FAMILY_PROOF,
             accepted: "certificate accepted depth 4\nchoices 1 0 1 2 3 1\n",
         },
     ] {
@@ -323,7 +303,7 @@ end
 }
 
 // In the class `regular` no branch has a literal twice, which changes the attempts, and here once
-// the proof; the number of workers changes nothing.
+// the proof.
 #[test]
 fn proofs_in_both_classes(rt: HostRuntime) -> Result<(), Fail> {
     for proof in [
@@ -376,26 +356,11 @@ end
             accepted: "certificate accepted depth 3\nchoices 0 0 2 0 1\n",
         },
         Proof {
-            jobs: &[
-                "prove e.p --class regular",
-                "prove e.p --class regular --workers 1",
-                "prove e.p --class regular --workers 2",
-                "prove e.p --class regular --workers 64",
-            ],
+            jobs: &["prove e.p --class regular"],
             clauses: LATE_REPEAT,
             exhausted: &[1, 1, 6],
             attempts: 12,
-            document: "parmel 1 class regular start negative depth 3 terms 1 nodes 6
-a
-root 2
-1 - p 0 extend 1
-2 + p 0 close 1
-1 - t 0 extend 3
-2 + t 0 close 1
-2 - u extend 4
-3 + u close 2
-end
-",
+            document: LATE_REPEAT_PROOF,
             accepted: "certificate accepted depth 3\nchoices 0 1 0 1\n",
         },
         Proof {
@@ -605,13 +570,6 @@ fn samples(rt: HostRuntime) -> Result<(), Fail> {
             Status::Done,
             "sample 1 clauses 1003
 proof depth 22 nodes 82 terms 21 attempts 193984
-",
-        ),
-        (
-            "sample 7 --workers 64",
-            Status::Done,
-            "sample 7 clauses 7003
-proof depth 22 nodes 82 terms 21 attempts 1333984
 ",
         ),
         (

@@ -1,4 +1,4 @@
-use Rattle.std.proofs.Common.{◌≡◌, ◌<◌, ◌-◌, Some, None, length, take, sym, ◌∙◌, ap, subst, arith}
+use Rattle.std.proofs.Common.{◌≡◌, None, sym, subst}
 use Rattle.pm_calculus.specs.Skeleton.{selected}
 use Rattle.pm_machine.specs.Value.{MachineValue, skeleton}
 use Rattle.pm_machine.specs.State.{AreAncestors}

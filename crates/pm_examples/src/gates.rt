@@ -1,10 +1,23 @@
-//! Gates that hold workers, and that count: they show that workers share a level, and that rows are
-//! claimed by their numbers.
-use super::*;
+//! Gates that hold workers, and that count, over a level of a sample problem: they show that workers
+//! share a level, and that rows are claimed by their numbers.
 use pm_book::Event;
+use pm_logic::{BoundKind, Class, Start};
 use pm_outside::Gate;
+use pm_pool::{LevelEnd, run_level};
+use pm_report::sample;
+use pm_tab::TabMaker;
 use std::sync::atomic::{AtomicU64, Ordering};
+use std::test::Fail;
 use std::thread;
+
+// A sample problem with a level of so many attempts, which is exhausted.
+const SAMPLE: u32 = 7;
+
+const LEVEL: u32 = 21;
+
+const ATTEMPTS: u64 = 133_441;
+
+const BUDGET: u64 = 1_000_000;
 
 // Holds the first worker that splits a row until the other one has taken or claimed a row.
 #[derive(Drop)]
@@ -52,6 +65,11 @@ impl Gate for HoldingGate {
     }
 }
 
+// Whether the end is that of the level.
+fn is_exhausted(end: &LevelEnd) -> bool {
+    matches!(end, LevelEnd::Exhausted { work } if *work == ATTEMPTS)
+}
+
 // Whether a worker claimed a row.
 fn has_claimed(events: &[Event], number: u16) -> bool {
     events.iter().any(|event| matches!(event, Event::Claimed { worker, .. } if *worker == number))
@@ -59,20 +77,27 @@ fn has_claimed(events: &[Event], number: u16) -> bool {
 
 #[test]
 fn two_workers_share_a_level(rt: HostRuntime) -> Result<(), Fail> {
-    let maker = ToyMaker::new(6, 7, 300_000);
+    let problem = sample(rt.alloc(), SAMPLE)?;
+    let maker = TabMaker::new(
+        rt.alloc(),
+        &problem,
+        Class::Plain,
+        Start::Negative,
+        BoundKind::Depth,
+    )?;
     let gate = HoldingGate {
         held: AtomicU64::new(0),
         first_started: AtomicU64::new(0),
         second_started: AtomicU64::new(0),
         ran_out: AtomicU64::new(0),
     };
-    let run = run_level(&rt, rt.alloc(), &maker, 0, &gate, 2, 1_000_000)?;
+    let run = run_level(&rt, rt.alloc(), &&maker, LEVEL, &gate, 2, BUDGET)?;
     assert!(rt; gate.held.load(Ordering::SeqCst) != 0);
     assert!(rt; gate.ran_out.load(Ordering::SeqCst) == 0);
     assert!(rt; run.aside.is_none());
     assert!(rt; !has_claimed(run.book.events(), 2));
     assert!(rt; run.pieces.len() >= 2);
-    assert!(rt; is_exhausted(Some(run.end), 335_922));
+    assert!(rt; is_exhausted(&run.end));
     Ok(())
 }
 
@@ -92,12 +117,19 @@ impl Gate for CountingGate {
 
 #[test]
 fn one_worker_claims_the_rows_that_it_splits_off(rt: HostRuntime) -> Result<(), Fail> {
-    let maker = ToyMaker::new(6, 7, 300_000);
+    let problem = sample(rt.alloc(), SAMPLE)?;
+    let maker = TabMaker::new(
+        rt.alloc(),
+        &problem,
+        Class::Plain,
+        Start::Negative,
+        BoundKind::Depth,
+    )?;
     let gate = CountingGate {
         claims: AtomicU64::new(0),
     };
-    let run = run_level(&rt, rt.alloc(), &maker, 0, &gate, 1, 1_000_000)?;
+    let run = run_level(&rt, rt.alloc(), &&maker, LEVEL, &gate, 1, BUDGET)?;
     assert!(rt; gate.claims.load(Ordering::SeqCst) >= 1);
-    assert!(rt; is_exhausted(Some(run.end), 335_922));
+    assert!(rt; is_exhausted(&run.end));
     Ok(())
 }
