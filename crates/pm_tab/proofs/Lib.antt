@@ -6,6 +6,11 @@ pub mod Paths
 pub mod Counted
 pub mod Hopeless
 pub mod Watching
+pub mod Told
+pub mod Kept
+pub mod Numbering
+pub mod Branches
+pub mod Giving
 pub mod Taking
 pub mod Numbered
 pub mod Finding

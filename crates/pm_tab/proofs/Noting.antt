@@ -11,6 +11,7 @@ use Rattle.pm_logic.specs.Problem.{Symbol, Problem, HasShape}
 use Rattle.pm_calculus.specs.Skeleton.{Subgoal, selected, built}
 use Rattle.pm_run.specs.State.{CellLiteral}
 use Rattle.pm_run.specs.InStore.{HasArgsBelow}
+use Rattle.pm_store.specs.Equations.{Equations}
 use Rattle.pm_machine.specs.declared.node.LeafView.{LeafView}
 use Rattle.pm_machine.specs.declared.node.MachineNode.{MachineNode}
 use Rattle.pm_machine.specs.Node.{node_of, Views}
@@ -19,6 +20,7 @@ use Rattle.pm_machine.specs.Labels.{IsBuilt, HasItsCount}
 use Rattle.pm_machine.proofs.Selected.{selected_leaves_agree, no_leaf_is_selected}
 use Rattle.pm_tab.specs.Repeats.{family_pairs, literals_in, literals_after, NotesBranch, last_of, new_pairs}
 use Rattle.pm_tab.specs.Inside.Adding.{literal_on, IsChildOf, AreChildrenOf, HasFamilyAfter}
+use Rattle.pm_tab.specs.Inside.Numbering.{AreNumbered}
 use Rattle.pm_tab.proofs.Counted.{views_none, views_some}
 use Rattle.pm_tab.proofs.Passing.{leaf_there, one_leaf}
 
@@ -157,13 +159,21 @@ pairs_of_family all (p ∷ branch) place count some is =
     (ap (λ q. literals_after (map node_of all) q count) (sym is) ∙ literals_there all place count)
 
 -- the last place of a branch
-last_place : (branch : List ℕ) (leaf : ℕ) → Some leaf ≡ slice_get branch (length branch - 1) → (branch ≢ []) × (leaf ≡ last_of branch)
+pub last_place : (branch : List ℕ) (leaf : ℕ) → Some leaf ≡ slice_get branch (length branch - 1) → (branch ≢ []) × (leaf ≡ last_of branch)
 last_place [] leaf is = absurd cc
 last_place (p ∷ []) leaf is = (λ none. absurd cc, cc)
 last_place (p ∷ q ∷ branch) leaf is =
     let less : length (p ∷ q ∷ branch) - 1 ≡ suc (length (q ∷ branch) - 1) = omega arith in
     let rest = last_place (q ∷ branch) leaf (is ∙ ap (slice_get (p ∷ q ∷ branch)) less) in
     (λ none. absurd cc, rest.1)
+
+pub last_none : (branch : List ℕ) → None ≡ slice_get branch (length branch - 1) → branch ≡ []
+last_none [] is = refl
+last_none (p ∷ []) is = absurd cc
+last_none (p ∷ q ∷ branch) is =
+    let less : length (p ∷ q ∷ branch) - 1 ≡ suc (length (q ∷ branch) - 1) = omega arith in
+    let rest : q ∷ branch ≡ [] = last_none (q ∷ branch) (is ∙ ap (slice_get (p ∷ q ∷ branch)) less) in
+    absurd cc
 
 module _ (all : List MachineNode) (nodes : List CellNode) (are : map node_of all ≡ nodes) (branch : List ℕ) (leaf : ℕ)
     (last : Some leaf ≡ slice_get branch (length branch - 1)) (before : ℕ) where
@@ -176,6 +186,19 @@ module _ (all : List MachineNode) (nodes : List CellNode) (are : map node_of all
       ap (λ cs. family_pairs (literals_in (map node_of all) branch) (map literal_on cs)) is
       ∙ sym (pairs_of_family all branch leaf (length all - before) h.0 h.1)
       ∙ ap₂ (λ ns n. new_pairs ns branch n) are count
+
+  -- so are their numbers
+  pub watched_numbers : (s : Equations) (ids numbers : List ℕ) (children : List MachineNode) → children ≡ take (length all - before) (drop (leaf + 1) all)
+      → AreNumbered s (literals_in nodes branch) ids (literals_after nodes (last_of branch) (length nodes - before)) numbers
+      → AreNumbered s (literals_in (map node_of all) branch) ids (map literal_on children) numbers
+  watched_numbers s ids numbers children is numbered =
+      let h = last_place branch leaf last in
+      let count : length nodes - before ≡ length all - before = ap (λ n. n - before) (sym (ap length are) ∙ length-map all node_of) in
+      let family : literals_after nodes (last_of branch) (length nodes - before) ≡ map literal_on children =
+      ap₂ (literals_after nodes) (sym h.1) count ∙ ap (λ ns. literals_after ns leaf (length all - before)) (sym are)
+      ∙ literals_there all leaf (length all - before) ∙ ap (map literal_on) (sym is) in
+      subst (λ ns. AreNumbered s (literals_in ns branch) ids (map literal_on children) numbers) (sym are)
+      (subst (λ ls. AreNumbered s (literals_in nodes branch) ids ls numbers) family numbered)
 
   pub room_after : HasFamilyAfter nodes branch before → leaf + 1 + (length all - before) ≤ length all
   room_after has =

@@ -1,13 +1,16 @@
 -- A place in a space stays one as its path grows and shrinks.
-use Rattle.std.proofs.Common.{◌≡◌, ℕ, ◌+◌, ◌<◌, ◌≤◌, Bool, true, false, not, cond, ◌&&◌, List, [], ◌∷◌, ◌++◌, length, Option, Some, None, IsSomeAnd, option_map, slice_get, get_or, take, fold, reverse, refl, sym, ◌∙◌, ap, subst, arith}
+use Rattle.std.proofs.Common.{◌≡◌, ◌≢◌, ℕ, ◌+◌, ◌<◌, ◌≤◌, Bool, true, false, not, cond, ◌&&◌, List, [], ◌∷◌, ◌++◌, length, map, Option, Some, None, IsSomeAnd, option_map, slice_get, get_or, fold, reverse, refl, sym, ◌∙◌, ap, subst, arith}
 use Rattle.std.specs.Prelude.{◌↔◌, IfSome, IsTrue}
 use Rattle.std.specs.Option.{is_some}
 use Rattle.std.proofs.lemmas.Bool.{false≢true, not-true, not-false}
 use Rattle.std.proofs.lemmas.List.{length-append, reverse-append}
+use Rattle.std.proofs.lemmas.List.Elements.{All-nil}
 use Rattle.std.proofs.lemmas.List.Sums.{fold_push}
 use Rattle.std.proofs.lemmas.Option.{slice_get-map, slice_get_within}
 use Rattle.pm_logic.specs.declared.tableau.BoundKind.{BoundKind}
 use Rattle.pm_logic.specs.declared.tableau.BoundKind.TheVariants.{Depth, Inferences}
+use Rattle.pm_logic.specs.declared.problem.Class.{Class}
+use Rattle.pm_logic.specs.declared.problem.Class.TheVariants.{Plain, Regular}
 use Rattle.pm_logic.specs.Problem.{Clause, Problem, IsValid, start_clauses}
 use Rattle.pm_calculus.specs.Connection.{Level}
 use Rattle.pm_calculus.specs.Skeleton.{Face, Skeleton, unclosed, closed, extended, Skeletons, no_skeletons, more_skeletons, State, empty, rooted, Step, start, extend, reduce, Subgoal, depth_of, is_closed_below, are_closed_below, is_closed, instances_built, selected_below, selected_among, selected, after_step, built, leaves, literals_at}
@@ -16,38 +19,70 @@ use Rattle.pm_calculus.specs.Choices.{IsReached, IsReachedState, IsComplete, IsG
 use Rattle.pm_calculus.proofs.Growth.{IsBegun, kept, begun, none_selected}
 use Rattle.pm_calculus.proofs.Built.{states_are_built, steps_may_be_taken}
 use Rattle.pm_calculus.proofs.Sizes.{size_built}
-use Rattle.pm_diseq.specs.Notes.{Note}
 use Rattle.pm_space.specs.Key.{Agree}
 use Rattle.pm_deepen.specs.Levels.{key_of}
 use Rattle.pm_machine.specs.declared.node.LeafView.{LeafView}
 use Rattle.pm_machine.specs.Node.{Views}
-use Rattle.pm_machine.specs.State.{MachineState}
+use Rattle.pm_diseq.specs.Notes.{Pair}
+use Rattle.pm_diseq.proofs.StandingLemmas.{empty_pools_stand}
+use Rattle.pm_machine.specs.State.{CellNode, MachineState}
 use Rattle.pm_machine.specs.Labels.{IsBuilt}
-use Rattle.pm_machine.specs.Value.{MachineValue, IsTaken, IsNotDeeper, skeleton}
+use Rattle.pm_machine.specs.Value.{MachineValue, IsNew, IsTaken, IsNotDeeper, skeleton}
 use Rattle.pm_tab.specs.declared.alternatives.Step.{Step as CodeStep}
 use Rattle.pm_tab.specs.declared.alternatives.Step.TheVariants as code
 use Rattle.pm_tab.specs.declared.space.Frame.{Frame}
 use Rattle.pm_machine.proofs.PlaceLemmas.{is_beyond}
 use Rattle.pm_tab.specs.Hopeful.{IsHopeful, IsFirstHopeful}
 use Rattle.pm_tab.specs.Numbered.{numbered_tableau}
-use Rattle.pm_tab.specs.Inside.Steps.{step_named, instances_given, StartsFirst, GrewTo, built_with, TakesWithin}
-use Rattle.pm_tab.specs.Inside.Watched.{WatchesFor}
+use Rattle.pm_tab.specs.Inside.Steps.{step_named, instances_given, StartsFirst}
+use Rattle.pm_tab.specs.declared.repeats.Watermark.{Watermark}
+use Rattle.pm_tab.specs.Repeats.{TellsRepeats}
+use Rattle.pm_tab.specs.Inside.Numbering.{all_literals, AreNumberedBy}
+use Rattle.pm_tab.specs.Inside.Watched.{Watch, no_watch, WatchesFor, unwatched, HasWatermark, GrewFrom}
 use Rattle.pm_tab.specs.Inside.Standing.{path_of, Counts, IsAt, counts_before, Stands}
 use Rattle.pm_tab.proofs.Room.{leaves_none, extension_counts, reduction_counts, leaf_among}
 use Rattle.pm_tab.proofs.Counted.{views_none, views_some, deep_goal}
 use Rattle.pm_tab.proofs.Taking.{labelled_within}
 use Rattle.pm_tab.proofs.Hopeless.{labelled_hopeful}
 use Rattle.pm_tab.proofs.Paths.{named_more, reached_more, width_of, may_take}
-use Rattle.pm_tab.proofs.Settling.{steps_taken, undone}
+use Rattle.pm_tab.proofs.Settling.{steps_taken}
 use Rattle.pm_tab.proofs.Numbered.{numbered_general}
 
+-- before the first step nothing is watched
+pub nothing_watched : (class : Class) (clauses : List Clause) (m : MachineState) → m.nodes ≡ [] → WatchesFor class clauses m no_watch
+nothing_watched Plain clauses m none = refl
+nothing_watched Regular clauses m none = record {
+  stands = empty_pools_stand m.equations;
+  numbers = subst (λ nodes. AreNumberedBy (all_literals clauses) m.equations (map (λ (node : CellNode). node.literal) nodes) []) (sym none) tt;
+  settled = [];
+  apart = λ trees solves. All-nil (λ (pair : Pair). map trees pair.left ≢ map trees pair.right);
+  tells = subst (λ nodes. TellsRepeats nodes []) (sym none)
+      (λ root trees. (λ regular. All-nil (λ (pair : Pair). map trees pair.left ≢ map trees pair.right), λ apart. tt));
+}
+
+-- a new place
+pub stands_new : (level : Level) (counts : Counts) (value : MachineValue) (watch : Watch) → IsNew level.problem value → counts.width ≡ length (alternatives level (skeleton value))
+    → counts.instances ≡ 0 → watch ≡ no_watch → Stands level [] counts value.state value.before watch
+stands_new level counts value watch new wide none nothing =
+    subst (λ others. Stands level [] counts value.state others watch) (sym new.before) (record {
+      steps = ap Some (sym new.steps);
+      reached = tt;
+      width = wide ∙ ap (λ s. length (alternatives level s)) at_start;
+      instances = none ∙ sym (ap (λ steps. instances_built (built level.problem.clauses steps)) new.steps);
+      built = new.built;
+      watches = subst (WatchesFor level.class level.problem.clauses value.state) (sym nothing) (nothing_watched level.class level.problem.clauses value.state new.nodes);
+    })
+  where
+    at_start : skeleton value ≡ empty
+    at_start = ap (built value.problem.clauses) new.steps
+
 -- where it stands now
-pub stands_at : (level : Level) (frames : List Frame) (counts : Counts) (m : MachineState) (others : List MachineState) (pool : List Note)
-    → Stands level frames counts m others pool → IsAt level (path_of frames) counts m pool
-stands_at level [] counts m [] pool h = h
-stands_at level [] counts m (o ∷ os) pool h = absurd h
-stands_at level (f ∷ fs) counts m [] pool h = absurd h
-stands_at level (f ∷ fs) counts m (o ∷ os) pool h = h.0
+pub stands_at : (level : Level) (frames : List Frame) (counts : Counts) (m : MachineState) (others : List MachineState) (watch : Watch)
+    → Stands level frames counts m others watch → IsAt level (path_of frames) counts m watch
+stands_at level [] counts m [] watch h = h
+stands_at level [] counts m (o ∷ os) watch h = absurd h
+stands_at level (f ∷ fs) counts m [] watch h = absurd h
+stands_at level (f ∷ fs) counts m (o ∷ os) watch h = h.0
 
 -- the path has a choice for each frame
 pub path_long : (frames : List Frame) → length (path_of frames) ≡ length frames
@@ -150,8 +185,8 @@ instances_few clauses state (step ∷ steps) all =
     omega (arith, rest, instances_more clauses state step all.0, given_one step)
 
 -- what holds of a place
-module _ (level : Level) (path : List ℕ) (counts : Counts) (value : MachineValue) (pool : List Note) (same : value.problem ≡ level.problem)
-    (at : IsAt level path counts value.state pool) where
+module _ (level : Level) (path : List ℕ) (counts : Counts) (value : MachineValue) (watch : Watch) (same : value.problem ≡ level.problem)
+    (at : IsAt level path counts value.state watch) where
   abbrev m : MachineState
   m = value.state
 
@@ -271,13 +306,13 @@ module _ (level : Level) (path : List ℕ) (counts : Counts) (value : MachineVal
       omega (arith, at.instances, few, long.2, ap length first)
 
 -- the place after a step that was taken
-module _ (level : Level) (frames : List Frame) (counts : Counts) (old new : MachineValue) (pool grown : List Note)
-    (stands : Stands level frames counts old.state old.before pool) (same : old.problem ≡ level.problem)
+module _ (level : Level) (frames : List Frame) (counts : Counts) (old new : MachineValue) (watch grown : Watch)
+    (stands : Stands level frames counts old.state old.before watch) (same : old.problem ≡ level.problem)
     (k : ℕ) (step : Step) (is : slice_get (alternatives level (skeleton old)) k ≡ Some step) (taken : IsTaken step old new)
     (labelled : HasLabelling level (built old.problem.clauses (old.state.steps ++ step ∷ [])))
-    (watches : WatchesFor level.class new.state grown) (grew : GrewTo pool grown) where
-  abbrev at : IsAt level (path_of frames) counts old.state pool
-  at = stands_at level frames counts old.state old.before pool stands
+    (watches : WatchesFor level.class level.problem.clauses new.state grown) (mark : Watermark) (grew : GrewFrom mark watch grown) where
+  abbrev at : IsAt level (path_of frames) counts old.state watch
+  at = stands_at level frames counts old.state old.before watch stands
 
   abbrev new_steps : new.state.steps ≡ old.state.steps ++ step ∷ []
   new_steps = steps_taken old.problem.clauses step old.state new.state taken.takes
@@ -287,17 +322,17 @@ module _ (level : Level) (frames : List Frame) (counts : Counts) (old new : Mach
 
   pub instances_are : (instances : ℕ) → instances ≡ counts.instances + instances_given step → instances ≡ instances_built (skeleton new)
   instances_are instances counted =
-      counted ∙ sym (instances_after level (path_of frames) counts old pool same at k step is)
+      counted ∙ sym (instances_after level (path_of frames) counts old watch same at k step is)
       ∙ ap (λ ss. instances_built (built level.problem.clauses ss)) (sym new_steps) ∙ ap (λ (p : Problem). instances_built (built p.clauses new.state.steps)) (sym problem_kept)
 
-  pub step_stands : (frame : Frame) (after : Counts) → frame.choice ≡ k → counts_before frame ≡ counts → frame.mark ≡ length pool
+  pub step_stands : (frame : Frame) (after : Counts) → frame.choice ≡ k → counts_before frame ≡ counts → frame.mark ≡ mark
       → after.width ≡ length (alternatives level (skeleton new)) → after.instances ≡ counts.instances + instances_given step
       → Stands level (frame ∷ frames) after new.state new.before grown
-  step_stands frame after choice before mark wide counted =
+  step_stands frame after choice before marked wide counted =
       let steps : steps_of level (path_of frames ++ k ∷ []) ≡ Some new.state.steps =
-      steps_more level (path_of frames) counts old pool same at k step is ∙ ap Some (sym new_steps) in
+      steps_more level (path_of frames) counts old watch same at k step is ∙ ap Some (sym new_steps) in
       let reached : IsReached level (path_of frames ++ k ∷ []) =
-      subst (λ (P : Type 0). P) (sym (reached_iff level (path_of frames) counts old pool same at k step is)) labelled in
+      subst (λ (P : Type 0). P) (sym (reached_iff level (path_of frames) counts old watch same at k step is)) labelled in
       let skeleton_new : skeleton new ≡ built level.problem.clauses new.state.steps = ap (λ (p : Problem). built p.clauses new.state.steps) problem_kept in
       let now : IsAt level (path_of frames ++ k ∷ []) after new.state grown = record {
         steps = steps;
@@ -308,20 +343,19 @@ module _ (level : Level) (frames : List Frame) (counts : Counts) (old new : Mach
         watches = watches;
       } in
       let now_frame : IsAt level (path_of (frame ∷ frames)) after new.state grown = subst (λ n. IsAt level (path_of frames ++ n ∷ []) after new.state grown) (sym choice) now in
-      let long : frame.mark ≤ length grown = omega (arith, mark, ap length grew.is, length-append pool grew.more) in
-      let kept : take frame.mark grown ≡ pool = undone pool grown (take frame.mark grown) frame.mark grew mark refl in
+      let kept : unwatched frame.mark grown ≡ watch = ap (λ m. unwatched m grown) marked ∙ grew.back in
       subst (λ os. Stands level (frame ∷ frames) after new.state os grown) (sym taken.before) (
         now_frame,
-        long,
-        subst (λ p. Stands level frames (counts_before frame) old.state old.before p) (sym kept)
-            (subst (λ c. Stands level frames c old.state old.before pool) (sym before) stands),
+        subst (λ m. HasWatermark m grown) (sym marked) grew.has,
+        subst (λ w. Stands level frames (counts_before frame) old.state old.before w) (sym kept)
+            (subst (λ c. Stands level frames c old.state old.before watch) (sym before) stands),
       )
 
 -- the least hopeful alternative passes no reached list
-pub hopeless_passed : (level : Level) (path : List ℕ) (counts : Counts) (value : MachineValue) (pool : List Note) (same : value.problem ≡ level.problem)
-    (at : IsAt level path counts value.state pool) → IsValid level.problem → (from first : ℕ) → IsFirstHopeful level value.state from first
+pub hopeless_passed : (level : Level) (path : List ℕ) (counts : Counts) (value : MachineValue) (watch : Watch) (same : value.problem ≡ level.problem)
+    (at : IsAt level path counts value.state watch) → IsValid level.problem → (from first : ℕ) → IsFirstHopeful level value.state from first
     → (k : ℕ) → from ≤ k → k < first → IsReached level (path ++ k ∷ []) → ⊥
-hopeless_passed level path counts value pool same at valid from first least k low less reached =
+hopeless_passed level path counts value watch same at valid from first least k low less reached =
     by (slice_get (alternatives level (built level.problem.clauses value.state.steps)) k) refl
   where
     within : k < length (alternatives level (built level.problem.clauses value.state.steps))
@@ -337,11 +371,11 @@ hopeless_passed level path counts value pool same at valid from first least k lo
         (labelled_hopeful level.problem value.state valid at.built step may labelled.tableau labelled.labelling))
 
 -- the general tableau of a complete path
-pub general_now : (level : Level) (path : List ℕ) (counts : Counts) (value : MachineValue) (pool : List Note) (same : value.problem ≡ level.problem)
-    (at : IsAt level path counts value.state pool) → (root : ℕ) (below : Skeletons) → built level.problem.clauses value.state.steps ≡ rooted root below
+pub general_now : (level : Level) (path : List ℕ) (counts : Counts) (value : MachineValue) (watch : Watch) (same : value.problem ≡ level.problem)
+    (at : IsAt level path counts value.state watch) → (root : ℕ) (below : Skeletons) → built level.problem.clauses value.state.steps ≡ rooted root below
     → IsGeneral level path (numbered_tableau root value.state)
-general_now level path counts value pool same at root below builds =
-    numbered_general level path value.state root below at.built builds (state_now level path counts value pool same at ∙ ap Some builds)
+general_now level path counts value watch same at root below builds =
+    numbered_general level path value.state root below at.built builds (state_now level path counts value watch same at ∙ ap Some builds)
 
 -- the root of what choices build is the start clause of the first
 abbrev HasRoot : ℕ → State → Type 0
@@ -394,17 +428,6 @@ pub first_choice : (frames : List Frame) (f : Frame) → 0 < length frames → f
 first_choice [] f some is = absurd (omega (arith, some))
 first_choice (g ∷ fs) f some is =
     (path_of (reverse fs), ap path_of (reverse-append (g ∷ []) fs) ∙ path_push (reverse fs) g ∙ ap (λ (h : Frame). h.choice ∷ path_of (reverse fs)) (sym is))
-
--- what a step answers within a level
-pub was_taken : (level : Level) (step : CodeStep) (old new : MachineValue) (pool grown : List Note) (b : Bool) → b ≡ true → TakesWithin level step old new pool grown b
-    → TakesWithin level step old new pool grown true
-was_taken level step old new pool grown true is h = h
-was_taken level step old new pool grown false is h = absurd (false≢true is)
-
-pub was_refused : (level : Level) (step : CodeStep) (old new : MachineValue) (pool grown : List Note) (b : Bool) → b ≡ false → TakesWithin level step old new pool grown b
-    → ¬ HasLabelling level (built_with old step)
-was_refused level step old new pool grown true is h = absurd (false≢true (sym is))
-was_refused level step old new pool grown false is h = h.2
 
 -- a key agrees with itself
 pub same_key : (level other : Level) → level ≡ other → Agree (key_of level) (key_of other)

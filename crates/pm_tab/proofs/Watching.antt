@@ -62,7 +62,7 @@ not_in : {A : Type 0} (x : A) (xs : List A) (y : A) → x ≢ y → ¬ Contains 
 not_in x xs y other none (zero, lt, is) = other is
 not_in x xs y other none (suc k, lt, is) = none (k, omega (arith, lt), is)
 
-map_map : {A B C : Type 0} (f : A → B) (g : B → C) (xs : List A) → map g (map f xs) ≡ map (λ x. g (f x)) xs
+pub map_map : {A B C : Type 0} (f : A → B) (g : B → C) (xs : List A) → map g (map f xs) ≡ map (λ x. g (f x)) xs
 map_map f g [] = refl
 map_map f g (x ∷ xs) = ap (λ ys. g (f x) ∷ ys) (map_map f g xs)
 
@@ -85,7 +85,7 @@ beq_same : (a : Bool) → beq a a ≡ true
 beq_same true = refl
 beq_same false = refl
 
-eqb_same : (n : ℕ) → (n == n) ≡ true
+pub eqb_same : (n : ℕ) → (n == n) ≡ true
 eqb_same n = elim (eqb_tells n n) [ inl h ↦ h.0 | inr h ↦ absurd (h.1 refl) ]
 
 module _ (trees : ℕ → Term) where
@@ -179,7 +179,7 @@ take_first (x ∷ xs) ys = ap (λ zs. x ∷ zs) (take_first xs ys)
 pub literal_is : (nodes : List CellNode) (place : ℕ) (node : CellNode) → slice_get nodes place ≡ Some node → literal_at nodes place ≡ node.literal
 literal_is nodes place node is = ap (λ o. option_map_or (λ (n : CellNode). n.literal) o (record { positive = true; predicate = 0; args = [] })) is
 
-children_there : (d : ℕ) (children : List Child) → map (λ (node : CellNode). node.literal) (map (child_at d) children) ≡ map (λ (child : Child). child.literal) children
+pub children_there : (d : ℕ) (children : List Child) → map (λ (node : CellNode). node.literal) (map (child_at d) children) ≡ map (λ (child : Child). child.literal) children
 children_there d children = map_map (child_at d) (λ (node : CellNode). node.literal) children
 
 module _ (problem : Problem) (m new : MachineState) (valid : IsValid problem) (is : IsBuilt problem m) where

@@ -1,6 +1,7 @@
 -- A step that is taken within a level, and one that isn't.
-use Rattle.std.proofs.Common.{◌≡◌, ℕ, ◌<◌, ◌≤◌, Bool, true, false, List, length, Option, Some, None, IsSomeAnd, sym, ◌∙◌, ap, subst}
+use Rattle.std.proofs.Common.{◌≡◌, ℕ, ◌<◌, ◌≤◌, Bool, true, false, List, ◌++◌, length, Option, Some, None, IsSomeAnd, refl, sym, ◌∙◌, ap, subst, arith}
 use Rattle.std.proofs.lemmas.List.Sums.{fold_push}
+use Rattle.std.specs.Bool.{then_some}
 use Rattle.pm_logic.specs.declared.problem.Class.TheVariants.{Plain, Regular}
 use Rattle.pm_logic.specs.Problem.{Clause, Problem}
 use Rattle.pm_calculus.specs.Connection.{IsRegularFor, Level}
@@ -9,7 +10,9 @@ use Rattle.pm_calculus.specs.Skeleton as calculus
 use Rattle.pm_calculus.specs.Alternatives.{IsStepAt, MayTake}
 use Rattle.pm_calculus.proofs.Sizes.{size_built}
 use Rattle.pm_calculus.specs.Choices.{IsLabelling, HasLabelling, IsReachedState}
-use Rattle.pm_diseq.specs.Notes.{Note, pairs_of}
+use Rattle.pm_store.specs.Trees.{tree}
+use Rattle.pm_store.proofs.TreeLemmas.{trees_solve}
+use Rattle.pm_diseq.specs.Notes.{pairs_of}
 use Rattle.pm_diseq.proofs.StandingLemmas.{standing_pairs_are_apart}
 use Rattle.pm_machine.specs.Labels.{IsBuilt}
 use Rattle.pm_machine.specs.Value.{MachineValue, Answers, IsTaken, skeleton}
@@ -18,11 +21,12 @@ use Rattle.pm_tab.specs.declared.alternatives.Step.TheVariants.{Start, Extend, R
 use Rattle.pm_tab.specs.General.{general_tableau}
 use Rattle.pm_tab.specs.Searched.{Searched, level_of}
 use Rattle.pm_tab.specs.StepLaws.{StartFits}
-use Rattle.pm_tab.specs.Inside.Watched.{WatchesFor}
-use Rattle.pm_tab.specs.Inside.Steps.{step_named, StartsAmong, StepFits, IsAlternative, GrewTo, built_with, TakesRegularly, TakesWithin}
+use Rattle.pm_tab.specs.Inside.Watched.{Watch, no_watch, Watches, WatchesFor, GrewFrom}
+use Rattle.pm_tab.specs.declared.repeats.Watermark.{Watermark}
+use Rattle.pm_tab.specs.Inside.Steps.{step_named, StartsAmong, StepFits, IsAlternative, built_with, TakesRegularly, TakesWithin}
 use Rattle.pm_tab.proofs.Taking.{rooted_from, step_within_level, start_refused, has_labelling}
+use Rattle.pm_tab.proofs.Watching.{apart_parts}
 use Rattle.pm_tab.proofs.Settling.{steps_taken, general_regular}
-use Rattle.pm_tab.proofs.Adding.{grew_none}
 
 -- a start that may be taken is with one of the clauses
 starts_in : (clauses : List Clause) (state : State) (c : ℕ) → MayTake clauses state (start c) → c < length clauses
@@ -94,32 +98,52 @@ module _ (searched : Searched) (n : ℕ) (old : MachineValue) (step : Step) (sam
         (has_labelling own new.state roots.0 roots.1 (subst (λ p. IsBuilt p new.state) taken.problem taken.built) (ap (built clauses) steps ∙ is_root) (regular roots.0)
         (subst (λ s. size_built searched.kind s ≤ n) is_root small)))
 
-    pub plain_within : searched.class ≡ Plain → (new : MachineValue) (pool grown : List Note) → WatchesFor searched.class old.state pool → grown ≡ pool
-        → (b : Bool) → Answers (step_named step) old new b → TakesWithin (level_of searched n) step old new pool grown b
-    plain_within plain new pool grown watches kept true taken = (
-      taken,
-      taken_labels new taken (λ root. subst (λ class. IsRegularFor class (general_tableau root new.state)) (sym plain) tt),
-      subst (λ class. WatchesFor class new.state grown) (sym plain) (kept ∙ subst (λ class. WatchesFor class old.state pool) plain watches),
-      subst (GrewTo pool) (sym kept) (grew_none pool),
-    )
-    plain_within plain new pool grown watches kept false refused = (
+    -- in the class plain nothing is watched
+    plain_taken : searched.class ≡ Plain → (new : MachineValue) (watch : Watch) → WatchesFor searched.class searched.problem.clauses old.state watch
+        → (mark : Watermark) → mark ≡ record { notes = 0; place = 0; count = 0 } → IsTaken (step_named step) old new
+        → TakesWithin (level_of searched n) step old new watch watch (Some mark)
+    plain_taken plain new watch watches mark nothing taken =
+        let none : watch ≡ no_watch = subst (λ class. WatchesFor class searched.problem.clauses old.state watch) plain watches in (
+          taken,
+          taken_labels new taken (λ root. subst (λ class. IsRegularFor class (general_tableau root new.state)) (sym plain) tt),
+          subst (λ class. WatchesFor class searched.problem.clauses new.state watch) (sym plain) none,
+          subst (λ m. GrewFrom m watch watch) (sym nothing)
+              (subst (λ w. GrewFrom (record { notes = 0; place = 0; count = 0 }) w w) (sym none) (record {
+                has = record { notes = omega arith; numbers = omega arith };
+                back = refl;
+              })),
+        )
+
+    plain_refused : (new : MachineValue) (watch : Watch) → Answers (step_named step) old new false
+        → TakesWithin (level_of searched n) step old new watch watch None
+    plain_refused new watch refused = (
       refused.same,
-      kept,
+      refl,
       λ h. refused.none h.tableau
           (subst (λ (p : Problem). IsLabelling p.clauses (built_with old step) h.tableau) (sym same) h.labelling),
     )
 
-    pub regular_within : searched.class ≡ Regular → (new : MachineValue) (pool grown : List Note)
-        → (b : Bool) → TakesRegularly step old new pool grown b → TakesWithin (level_of searched n) step old new pool grown b
-    regular_within regular new pool grown true h =
-        let built_new = h.0.built in (
+    pub plain_within : searched.class ≡ Plain → (new : MachineValue) (watch : Watch) → WatchesFor searched.class searched.problem.clauses old.state watch
+        → (mark : Watermark) → mark ≡ record { notes = 0; place = 0; count = 0 } → (b : Bool) → Answers (step_named step) old new b
+        → TakesWithin (level_of searched n) step old new watch watch (then_some b mark)
+    plain_within plain new watch watches mark nothing true taken = plain_taken plain new watch watches mark nothing taken
+    plain_within plain new watch watches mark nothing false refused = plain_refused new watch refused
+
+    pub regular_within : searched.class ≡ Regular → (new : MachineValue) (watch grown : Watch)
+        → (o : Option Watermark) → TakesRegularly step old new watch grown o → TakesWithin (level_of searched n) step old new watch grown o
+    regular_within regular new watch grown (Some mark) h =
+        let built_new = h.0.built in
+        let s = new.state.equations in (
           h.0,
           taken_labels new h.0 (λ root. subst (λ class. IsRegularFor class (general_tableau root new.state)) (sym regular)
-              (general_regular new.state root (pairs_of grown) h.1.tells (standing_pairs_are_apart new.state.equations grown built_new.sound h.1.stands))),
-          subst (λ class. WatchesFor class new.state grown) (sym regular) h.1,
+              (general_regular new.state root (pairs_of grown.notes ++ h.1.settled) h.1.tells
+              ((apart_parts (tree s) (pairs_of grown.notes) h.1.settled).1
+              (standing_pairs_are_apart s grown.notes built_new.sound h.1.stands, h.1.apart (tree s) (trees_solve s built_new.sound))))),
+          subst (λ class. WatchesFor class searched.problem.clauses new.state grown) (sym regular)
+              (subst (λ (p : Problem). Watches p.clauses new.state grown) same h.1),
           h.2,
         )
-    regular_within regular new pool grown false h = (
+    regular_within regular new watch grown None h = (
       h.0,
       h.1,
       λ k. h.2 k.tableau

@@ -2,6 +2,8 @@
 pub mod Adding
 pub mod Counting
 pub mod Drawing
+pub mod Known
+pub mod Numbering
 pub mod Passing
 pub mod Standing
 pub mod Steps

@@ -6,6 +6,7 @@ mod alternatives;
 mod drawing;
 mod laws;
 mod maker;
+mod numbers;
 mod repeats;
 mod space;
 

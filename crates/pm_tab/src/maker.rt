@@ -1,8 +1,14 @@
 //! What all spaces of a search share.
 ghost use Rattle.std.specs.Prelude.{◌≡◌, ◌<◌, ◌^◌, Some, IfOk, length, slice_get};
 ghost use Rattle.pm_logic.specs.Problem.{IsValid, start_clauses};
+ghost use Rattle.pm_calculus.specs.Skeleton.{State};
+ghost use Rattle.pm_calculus.specs.Alternatives.{MayTake};
 ghost use Rattle.pm_machine.specs.Value.{IsNew};
+ghost use Rattle.pm_tab.specs.Inside.Numbering.{AreNumbersFor};
+ghost use Rattle.pm_tab.specs.Inside.Steps.{step_named};
 
+use crate::alternatives::Step;
+use crate::numbers::number;
 use pm_compile::{Code, compile};
 use pm_contra::Contras;
 use pm_logic::{BoundKind, Class, Problem, Start};
@@ -20,18 +26,21 @@ pub struct TabMaker<'p> {
     pub(crate) bound: BoundKind,
     pub(crate) code: Code,
     pub(crate) contras: Contras,
+    // For each clause the numbers of its literals, 0 for one that has variables.
+    pub(crate) numbers: Vec<Vec<u32>>,
     // The start clauses by index.
     pub(crate) starts: Vec<u32>,
 }
 
 impl<'p> Model for TabMaker<'p> {
-    ghost use Rattle.std.specs.Prelude.{◌≡◌, ◌<◌, ◌^◌, length};
+    ghost use Rattle.std.specs.Prelude.{◌≡◌, ◌<◌, ◌^◌, length, map};
     ghost use Rattle.std.specs.Coded.{codes};
     ghost use Rattle.pm_logic.specs.TermCode.{term_code};
     ghost use Rattle.pm_logic.specs.Problem.{IsValid, start_clauses};
     ghost use Rattle.pm_compile.specs.Code.{IsCodeOf};
     ghost use Rattle.pm_contra.specs.Index.{IsIndexOf};
     ghost use Rattle.pm_tab.specs.Searched.{Searched};
+    ghost use Rattle.pm_tab.specs.Inside.Numbering.{AreNumbers};
 
     ghost Value = { Searched };
 
@@ -47,7 +56,8 @@ impl<'p> Model for TabMaker<'p> {
     ghost invariant = { λ a. IsValid a.problem.now × (length a.problem.now.symbols < 2 ^ 32)
         × IsCodeOf a.problem.now a.code
         × IsIndexOf a.problem.now.clauses a.contras
-        × (a.starts.items ≡ start_clauses a.start a.problem.now.clauses) };
+        × (a.starts.items ≡ start_clauses a.start a.problem.now.clauses)
+        × AreNumbers a.problem.now.clauses (map (λ own. own.items) a.numbers.items) };
 }
 
 impl<'p> TabMaker<'p> {
@@ -69,6 +79,7 @@ impl<'p> TabMaker<'p> {
     {
         let code = compile(alloc, problem)?;
         let contras = Contras::new(alloc, problem)?;
+        let numbers = number(alloc, problem)?;
         let starts = problem.starts(alloc, start)?;
         let _clauses = problem.clauses();
         let _symbols = problem.symbols().len();
@@ -79,6 +90,7 @@ impl<'p> TabMaker<'p> {
             bound,
             code,
             contras,
+            numbers,
             starts,
         })
     }
@@ -97,6 +109,18 @@ impl<'p> TabMaker<'p> {
         ensures symbols { length self.now.problem.symbols < 2 ^ 32 }
     {
         self.class
+    }
+
+    // The numbers of the literals that a step gives.
+    pub(crate) fn numbers(&self, step: Step) -> &[u32]
+        requires { (state : State)
+            × MayTake self.now.problem.clauses state (step_named step) }
+        ensures { AreNumbersFor self.now.problem.clauses (step_named step) result.now }
+    {
+        match step {
+            Step::Start { clause } | Step::Extend { clause, .. } => &self.numbers[clause as usize],
+            Step::Reduce { .. } => &[],
+        }
     }
 
     // The start clause of this number.

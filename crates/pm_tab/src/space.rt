@@ -14,7 +14,7 @@ ghost use Rattle.pm_tab.specs.Inside.Watched.{WatchesFor};
 use crate::alternatives::{Step, take};
 use crate::drawing::draw;
 use crate::maker::TabMaker;
-use crate::repeats::Repeats;
+use crate::repeats::{NOTHING, Repeats, Watermark};
 use pm_logic::{Class, Tableau};
 use pm_machine::Machine;
 use pm_space::{Maker, Space};
@@ -28,7 +28,7 @@ pub(crate) struct Frame {
     choice: u32,
     width: u32,
     instances: u64,
-    mark: usize,
+    mark: Watermark,
 }
 
 /// A place in the space of a level.
@@ -115,31 +115,33 @@ impl<'m, 'p> TabSpace<'m, 'p> {
 }
 
 // Takes a step, if what it builds is within the level and, in the class regular, has no literal
-// twice on a branch. Where it isn't taken, and after want of memory, all is as before.
+// twice on a branch, and answers the mark of what was watched. Where it isn't taken, and after want
+// of memory, all is as before.
 fn take_within(
     maker: &TabMaker<'_>,
     level: u32,
     machine: &mut Machine<'_>,
     repeats: &mut Repeats,
     step: Step,
-) -> Result<bool, AllocError>
+) -> Result<Option<Watermark>, AllocError>
     requires problem { machine.old.problem ≡ maker.now.problem }
     requires depth { IsNotDeeper 250 machine.old }
     requires first { StartsFirst step machine.old }
     requires alternative { IsAlternative (level_of maker.now level) machine.old step }
     requires may { MayTake machine.old.problem.clauses (skeleton machine.old) (step_named step) }
     requires reached { IsReachedState (level_of maker.now level) (skeleton machine.old) }
-    requires watches { WatchesFor maker.now.class machine.old.state repeats.old }
+    requires watches { WatchesFor maker.now.class maker.now.problem.clauses machine.old.state
+        repeats.old }
     ensures answer { IfOk result (TakesWithin (level_of maker.now level) step machine.old machine.new
         repeats.old repeats.new) }
     ensures err { OnErr result ((machine.new ≡ machine.old) × (repeats.new ≡ repeats.old)) }
 {
     if !maker.fits(level, step) {
-        return Ok(false);
+        return Ok(None);
     }
     match maker.class() {
-        Class::Plain => take(machine, step),
-        Class::Regular => repeats.take(machine, step),
+        Class::Plain => Ok(take(machine, step)?.then_some(NOTHING)),
+        Class::Regular => repeats.take(machine, step, maker.numbers(step)),
     }
 }
 
@@ -176,17 +178,16 @@ impl<'m, 'p> Space for TabSpace<'m, 'p> {
     {
         self.frames.reserve(1)?;
         let step = self.maker.step(&self.machine, k);
-        let mark = self.repeats.mark();
-        let taken = take_within(
+        let Some(mark) = take_within(
             self.maker,
             self.level,
             &mut self.machine,
             &mut self.repeats,
             step,
-        )?;
-        if !taken {
+        )?
+        else {
             return Ok(false);
-        }
+        };
         let instances = self.instances + step.instances();
         let width = self.maker.width(self.level, instances, &self.machine);
         self.frames.push_reserved(Frame {

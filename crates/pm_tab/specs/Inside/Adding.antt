@@ -1,6 +1,8 @@
 -- Pairs that are added to what is watched.
-use Rattle.std.specs.Prelude.{◌≡◌, ◌≢◌, ℕ, ◌+◌, ◌-◌, ◌<◌, ◌≤◌, List, [], ◌++◌, All, length}
+use Rattle.std.specs.Prelude.{◌≡◌, ◌≢◌, ◌↔◌, ℕ, ◌+◌, ◌-◌, ◌<◌, ◌≤◌, List, [], ◌++◌, All, length}
+use Rattle.pm_logic.specs.Term.{Term}
 use Rattle.pm_store.specs.Equations.{Equations}
+use Rattle.pm_store.specs.Solutions.{Solves}
 use Rattle.pm_run.specs.State.{CellLiteral}
 use Rattle.pm_run.specs.InStore.{HasArgsBelow}
 use Rattle.pm_diseq.specs.Notes.{Pair, Note, pairs_of}
@@ -8,7 +10,7 @@ use Rattle.pm_diseq.specs.Standing.{AreIdentical, StandsAt}
 use Rattle.pm_machine.specs.declared.node.MachineNode.{MachineNode}
 use Rattle.pm_machine.specs.State.{CellNode, MachineState}
 use Rattle.pm_machine.specs.Node.{node_of}
-use Rattle.pm_tab.specs.Repeats.{last_of, new_pairs}
+use Rattle.pm_tab.specs.Repeats.{AreApart, last_of, new_pairs}
 
 abbrev pub literal_on : MachineNode → CellLiteral
 literal_on node = (node_of node).literal
@@ -33,10 +35,15 @@ pub record AreNodesOf (s : Equations) (nodes : List CellNode) (places : List ℕ
 abbrev pub HasIdentical : Equations → List Pair → Type 0
 HasIdentical s pairs = ¬ All (λ pair. ¬ AreIdentical s pair) pairs
 
--- the pool stands, and has these pairs more
+-- The pool stands, and has pairs more. With others, which are apart in whatever solution, they tell
+-- whether these pairs are apart.
 pub record AddsPairs (s : Equations) (pool grown : List Note) (pairs : List Pair) : Type 0 where
   pub stands : StandsAt s grown
-  pub added : pairs_of grown ≡ pairs_of pool ++ pairs
+  pub more : List Pair
+  pub added : pairs_of grown ≡ pairs_of pool ++ more
+  pub settled : List Pair
+  pub apart : (trees : ℕ → Term) → Solves s trees → AreApart trees settled
+  pub tells : (trees : ℕ → Term) → AreApart trees pairs ↔ AreApart trees (more ++ settled)
 
 -- the nodes that came to the first so many stand after the branch's end
 pub record HasFamilyAfter (nodes : List CellNode) (branch : List ℕ) (before : ℕ) : Type 0 where

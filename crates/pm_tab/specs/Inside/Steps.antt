@@ -1,5 +1,5 @@
 -- Steps as the code has them, and what taking one answers.
-use Rattle.std.specs.Prelude.{◌≡◌, ℕ, ◌<◌, Bool, true, false, List, [], ◌∷◌, ◌++◌, Some, slice_get}
+use Rattle.std.specs.Prelude.{◌≡◌, ℕ, ◌<◌, List, [], ◌∷◌, ◌++◌, Option, Some, None, slice_get}
 use Rattle.pm_logic.specs.Tableau.{Tableau}
 use Rattle.pm_calculus.specs.Connection.{IsRegular, Level}
 use Rattle.pm_calculus.specs.Skeleton as calculus
@@ -9,9 +9,10 @@ use Rattle.pm_diseq.specs.Notes.{Note}
 use Rattle.pm_machine.specs.Value.{MachineValue, IsTaken, skeleton}
 use Rattle.pm_tab.specs.Searched.{Searched}
 use Rattle.pm_tab.specs.StepLaws.{StartFits}
-use Rattle.pm_tab.specs.Inside.Watched.{Watches, WatchesFor}
+use Rattle.pm_tab.specs.Inside.Watched.{Watch, Watches, WatchesFor, GrewFrom}
 use Rattle.pm_tab.specs.declared.alternatives.Step.{Step}
 use Rattle.pm_tab.specs.declared.alternatives.Step.TheVariants.{Start, Extend, Reduce}
+use Rattle.pm_tab.specs.declared.repeats.Watermark.{Watermark}
 
 -- the step of the calculus
 abbrev pub step_named : Step → calculus.Step
@@ -46,7 +47,7 @@ abbrev pub IsAlternative : Level → MachineValue → Step → Type 0
 IsAlternative level m step =
     (k : ℕ) × (slice_get (alternatives level (skeleton m)) k ≡ Some (step_named step))
 
--- what is watched has grown from what was
+-- a pool's notes have grown from what they were
 pub record GrewTo (pool new : List Note) : Type 0 where
   pub more : List Note
   pub is : new ≡ pool ++ more
@@ -57,20 +58,21 @@ built_with m step = calculus.built m.problem.clauses (m.state.steps ++ step_name
 
 -- Where a step is taken, what is watched tells of the new nodes, and no branch has a literal twice.
 -- Where it isn't, no labelling of what it would build is regular.
-abbrev pub TakesRegularly : Step → MachineValue → MachineValue → List Note → List Note → Bool
+abbrev pub TakesRegularly : Step → MachineValue → MachineValue → Watch → Watch → Option Watermark
     → Type 0
-TakesRegularly step old new pool grown true =
-    IsTaken (step_named step) old new × Watches new.state grown × GrewTo pool grown
-TakesRegularly step old new pool grown false =
-    (new ≡ old) × (grown ≡ pool)
+TakesRegularly step old new watch grown (Some mark) =
+    IsTaken (step_named step) old new × Watches old.problem.clauses new.state grown
+    × GrewFrom mark watch grown
+TakesRegularly step old new watch grown None =
+    (new ≡ old) × (grown ≡ watch)
     × ((tableau : Tableau) → IsLabelling old.problem.clauses (built_with old step) tableau
     → ¬ IsRegular tableau)
 
 -- where a step is taken, what was built has a labelling at the level, and else it would have none
-abbrev pub TakesWithin : Level → Step → MachineValue → MachineValue → List Note → List Note → Bool
-    → Type 0
-TakesWithin level step old new pool grown true =
+abbrev pub TakesWithin : Level → Step → MachineValue → MachineValue → Watch → Watch
+    → Option Watermark → Type 0
+TakesWithin level step old new watch grown (Some mark) =
     IsTaken (step_named step) old new × HasLabelling level (built_with old step)
-    × WatchesFor level.class new.state grown × GrewTo pool grown
-TakesWithin level step old new pool grown false =
-    (new ≡ old) × (grown ≡ pool) × ¬ HasLabelling level (built_with old step)
+    × WatchesFor level.class level.problem.clauses new.state grown × GrewFrom mark watch grown
+TakesWithin level step old new watch grown None =
+    (new ≡ old) × (grown ≡ watch) × ¬ HasLabelling level (built_with old step)

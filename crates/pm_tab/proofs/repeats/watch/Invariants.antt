@@ -7,5 +7,5 @@ use Rattle.pm_tab.proofs.repeats.watch.Given as goal
 
 abbrev pub invariant-children : goal.invariant-children
 invariant-children l =
-    AddsPairs l.store l.initial.pool l.pool (family_pairs (literals_in (map node_of l.nodes) l.branch) (map literal_on (take l.child-index l.children)))
+    AddsPairs l.store l.initial.pool l.pool (family_pairs (literals_in (map node_of l.nodes) l.branch) (map literal_on (take l.i l.children)))
     × GrewTo l.initial.pool l.pool

@@ -7,5 +7,5 @@ use Rattle.pm_tab.proofs.repeats.watch_child.Given as goal
 
 abbrev pub invariant-branch : goal.invariant-branch
 invariant-branch l =
-    AddsPairs l.store l.initial.pool l.pool (pairs_with (literals_in (map node_of l.nodes) (take l.place-index l.branch)) (literal_on l.child))
+    AddsPairs l.store l.initial.pool l.pool (pairs_with (literals_in (map node_of l.nodes) (take l.i l.branch)) (literal_on l.child))
     × GrewTo l.initial.pool l.pool
